@@ -2,7 +2,7 @@
 -- Assumes nothing.
 use mathlib.Core.Path.{_≡_, refl, sym, ap, _∙_, subst}
 use Prim.Native.Nat.{ℕ, zero, suc, _+_, _-_, _*_, _/_, _^_, _≤_, _<_}
-use native.Mathlib.Nat.{div-le-of-le-mul, div-lt-iff-lt-mul, mul-lt-mul-of-pos-left, le-add-right, mul-comm, le-refl, le-trans, lt-of-le-of-lt, lt-of-lt-of-le, le-of-eq, mul-le-mul-left, mul-le-mul-right}
+use native.Mathlib.Nat.{zero-div, div-le-of-le-mul, div-lt-iff-lt-mul, mul-lt-mul-of-pos-left, le-add-right, mul-comm, le-refl, le-trans, lt-of-le-of-lt, lt-of-lt-of-le, le-of-eq, mul-le-mul-left, mul-le-mul-right}
 use native.Mathlib.Omega.{arith}
 use lib.IntN.{ℤ, pos, negsuc, negℤ, natAbs, subℕ, negℤ-+ℤ, +ℤ-idl, _+ℤ_, _-ℤ_, _*ℤ_}
 use lib.Signed.{mag, quotZ, shrZ, natAbs-le, ltZ, ltZ-yes, ltZ-no, _<ℤ_, _≤ℤ_}
@@ -107,3 +107,16 @@ sub-fits {w} a b h k = record { sfits = by-test (ltb a b) refl }
     by-test : (t : Bool) → ltb a b ≡ t → mag (cond t (negsuc (b - suc a)) (pos (a - b))) < 2 ^ hbits w
     by-test true e = omega (arith, ltb-true a b e)
     by-test false e = omega (arith, ltb-false a b e)
+
+-- and back: what such a difference's fitting tells
+pub sub-bounds : {w : Width} (a b : ℕ) → SFits w (subℕ a b) → (a < b + 2 ^ hbits w) × (b ≤ a + 2 ^ hbits w)
+sub-bounds {w} a b f = by-test (ltb a b) refl (f .sfits)
+  where
+    by-test : (t : Bool) → ltb a b ≡ t → mag (cond t (negsuc (b - suc a)) (pos (a - b))) < 2 ^ hbits w → (a < b + 2 ^ hbits w) × (b ≤ a + 2 ^ hbits w)
+    by-test true e l = let s = ltb-true a b e in (omega arith, omega arith)
+    by-test false e l = let s = ltb-false a b e in (omega arith, omega arith)
+
+-- a negated number's quotient
+pub quot-neg : (n m : ℕ) → quotZ (negℤ (pos n)) (pos m) ≡ negℤ (pos (n / m))
+quot-neg zero m = rw (zero-div m)
+quot-neg (suc n) m = refl

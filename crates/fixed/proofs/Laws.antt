@@ -1,0 +1,86 @@
+-- Laws of the definitions, by which callers and proofs bound what they give. Assumes nothing.
+use mathlib.Core.Path.{_≡_, refl, sym, subst}
+use Prim.Native.Nat.{ℕ, zero, suc, _+_, _-_, _*_, _/_, _^_, _≤_, _<_}
+use native.Mathlib.Nat.{div-le-of-le-mul, mul-le-mul-left, le-trans, le-of-eq, le-antisymm, le-div-iff-mul-le, div-lt-iff-lt-mul, zero-div, mul-comm}
+use native.Mathlib.Omega.{arith}
+use lib.Dec.{leb, leb→le}
+use lib.IntN.{ℤ, pos, negsuc, negℤ, natAbs, subℕ, _+ℤ_, _-ℤ_, _*ℤ_, +ℤ-comm, +ℤ-idr, -ℤ-+ℤ-cancel}
+use lib.Signed.{quotZ, shrZ, mag}
+use mir.Syntax.{Width, w8, w32}
+use mir.Val.{Fits, SFits, hbits}
+use mir.Facts.{sfits-widen}
+use Rattle.laws.proofs.Finite.{below}
+use Rattle.laws.proofs.Signed.{abs≤, abs-fits, abs-quot, mul≤, add≤, sub≤, mag-shr, mag≤abs, sub-fits, sub-bounds, quot-neg}
+use Rattle.fixed.specs.Fixed.{arch, toward}
+
+-- the arch stays below 64, by one test over its 256 places
+pub arch-low : (y : ℕ) → y ≤ 255 → y * (255 - y) ≤ 16256
+arch-low y h = leb→le _ _ (below (λ k. leb (k * (255 - k)) 16256) 256 tt y (omega arith))
+
+-- k of n steps up from a, or down from a, stay within what a and the whole way fit
+module _ {w : Width} where
+  up : (a : ℤ) (k n : ℕ) → k ≤ n → SFits w a → SFits w (a +ℤ pos n) → SFits w (a +ℤ pos k)
+  up (pos x) k n h f g = record { sfits = omega arith }
+  up (negsuc x) k n h f g = let b = sub-bounds n (suc x) g in sub-fits k (suc x) (omega arith) (omega arith)
+
+  down : (a : ℤ) (k n : ℕ) → k ≤ n → SFits w a → SFits w (a +ℤ negℤ (pos n)) → SFits w (a +ℤ negℤ (pos k))
+  down a zero n h f g = rw (+ℤ-idr a) f
+  down (pos x) (suc k) (suc n) h f g = let b = sub-bounds x (suc n) g in sub-fits x (suc k) (omega arith) (omega arith)
+  down (negsuc x) (suc k) (suc n) h f g = record { sfits = omega arith }
+
+part≤ : (n t m : ℕ) → t ≤ m → 0 < m → n * t / m ≤ n
+part≤ n t m h p = div-le-of-le-mul m (le-trans (mul-le-mul-left n h) (le-of-eq (mul-comm n m)))
+
+-- t of m parts of the way d from a stay within what a and a + d fit
+way : {w : Width} (a d : ℤ) (t m : ℕ) → t ≤ m → 0 < m → SFits w a → SFits w (a +ℤ d) → SFits w (a +ℤ quotZ (d *ℤ pos t) (pos m))
+way a (pos n) t m h p f g = up a (n * t / m) n (part≤ n t m h p) f g
+way a (negsuc n) t m h p f g = rw (quot-neg (suc n * t) m) (down a (suc n * t / m) (suc n) (part≤ (suc n) t m h p) f g)
+
+-- each value on the way from a toward b fits, and the last is a sample
+pub record Toward (a b : ℤ) (t : ℕ) : Type 0 where
+  pub from : SFits w32 a
+  pub to : SFits w32 b
+  pub dist : SFits w32 (b -ℤ a)
+  pub part : SFits w32 (pos t)
+  pub prod : SFits w32 ((b -ℤ a) *ℤ pos t)
+  pub quot : SFits w32 (quotZ ((b -ℤ a) *ℤ pos t) (pos 256))
+  pub sum : SFits w32 (toward a b t)
+  pub byte : SFits w8 (toward a b t)
+
+pub toward-fits : (a b : ℤ) (t : ℕ) → SFits w8 a → SFits w8 b → Fits w8 t → Toward a b t
+toward-fits a b t fa fb ft =
+    let d : natAbs (b -ℤ a) ≤ 256 = sub≤ b a 128 128 (abs≤ fb) (abs≤ fa) in
+    let p : natAbs ((b -ℤ a) *ℤ pos t) ≤ 65280 = mul≤ (b -ℤ a) (pos t) 256 255 d (omega arith) in
+    let q : natAbs (quotZ ((b -ℤ a) *ℤ pos t) (pos 256)) ≤ 255 = rw abs-quot (omega arith) in
+    let r : SFits w8 (toward a b t) = way a (b -ℤ a) t 256 (omega arith) (omega arith) fa (rw (+ℤ-comm a (b -ℤ a), -ℤ-+ℤ-cancel b a) fb) in
+    record {
+      from = sfits-widen tt fa;
+      to = sfits-widen tt fb;
+      dist = abs-fits 256 d tt;
+      part = record { sfits = omega arith };
+      prod = abs-fits 65280 p tt;
+      quot = abs-fits 255 q tt;
+      sum = sfits-widen tt r;
+      byte = r;
+    }
+
+-- each value on the way of a gain fits, and the last is a sample
+pub record Gained (s : ℤ) (g : ℕ) : Type 0 where
+  pub wide : SFits w32 s
+  pub gain : SFits w32 (pos g)
+  pub prod : SFits w32 (s *ℤ pos g)
+  pub down : SFits w32 (shrZ (s *ℤ pos g) 256)
+  pub byte : SFits w8 (shrZ (s *ℤ pos g) 256)
+
+pub gained-fits : (s : ℤ) (g : ℕ) → SFits w8 s → Fits w8 g → Gained s g
+gained-fits s g fs fg =
+    let p : natAbs (s *ℤ pos g) ≤ 32640 = mul≤ s (pos g) 128 255 (abs≤ fs) (omega arith) in
+    let r : SFits w8 (shrZ (s *ℤ pos g) 256) = record { sfits = omega (arith, mag-shr (s *ℤ pos g) 256, mag≤abs (s *ℤ pos g)) } in
+    record { wide = sfits-widen tt fs; gain = record { sfits = omega arith }; prod = abs-fits 32640 p tt; down = sfits-widen tt r; byte = r }
+
+-- past an excess of room(room − 1) the knee's quotient is room − 1
+pub knee-top : (r e : ℕ) → suc r * r ≤ e → suc r * e / (e + suc r) ≡ r
+knee-top r e h =
+    let above : suc r * e / (e + suc r) < suc r = div-lt-iff-lt-mul {k = e + suc r} {x = suc r * e} {y = suc r} (omega arith) .1 (omega arith) in
+    let under : r ≤ suc r * e / (e + suc r) = le-div-iff-mul-le {k = e + suc r} {x = r} {y = suc r * e} (omega arith) .1 (omega arith) in
+    omega arith

@@ -1,0 +1,132 @@
+// Integer arithmetic of phases, samples and gains.
+ghost use mathlib.Core.Path.{_≡_};
+ghost use Prim.Native.Nat.{_+_, _≤_, _<_};
+ghost use lib.IntN.{pos, negsuc};
+ghost use Rattle.laws.specs.Whole.{heldTo};
+ghost use Rattle.fixed.specs.Fixed.{increment, indexOf, fractionOf, arch, sine, toward, gained, panGains, knee, limited};
+
+// A 32-bit phase; its top bits index a wave.
+pub type Phase = u32;
+
+// The phase's step per sample, modulo 2^32.
+pub fn hz_to_phase_inc(freq_hz: u32, sample_rate_hz: u32) -> u32
+    ensures { λ r. ⌜ r ≡ increment «freq_hz» «sample_rate_hz» ⌝ }
+{
+    if sample_rate_hz == 0 {
+        return 0;
+    }
+    let wide = (freq_hz as u64) * 0x1_0000_0000;
+    (wide / (sample_rate_hz as u64) % 0x1_0000_0000) as u32
+}
+
+pub fn phase_index(phase: Phase) -> u8
+    ensures { λ r. ⌜ r ≡ indexOf phase ⌝ }
+{
+    (phase >> 24) as u8
+}
+
+// The source writes this `(phase >> 16) as u8` where it is used.
+pub fn phase_fraction(phase: Phase) -> u8
+    ensures { λ r. ⌜ r ≡ fractionOf phase ⌝ }
+{
+    ((phase >> 16) % 256) as u8
+}
+
+// One half of the sine, y running from 0 to 254 and back.
+fn arch_i8(y: u32) -> i8
+    requires { ⌜ y ≤ 255 ⌝ }
+    ensures { λ r. ⌜ r ≡ pos (arch y) ⌝ }
+{
+    (y * (255 - y) / 256) as i8
+}
+
+pub fn sin_table(index: u8) -> i8
+    ensures { λ r. ⌜ r ≡ sine index ⌝ }
+{
+    let x = index as u32;
+    if x < 128 {
+        arch_i8(2 * x)
+    } else {
+        -arch_i8(2 * (255 - x))
+    }
+}
+
+// From a toward b by t 256ths: no clamp is needed, since the result lies between the two.
+pub fn lerp_i8(a: i8, b: i8, frac: u8) -> i8
+    ensures { λ r. ⌜ r ≡ toward a b frac ⌝ }
+{
+    let x = a as i32;
+    let d = (b as i32) - x;
+    (x + d * (frac as i32) / 256) as i8
+}
+
+pub fn mix_crossfade(a: i8, b: i8, t_q8: u8) -> i8
+    ensures { λ r. ⌜ r ≡ toward a b «t_q8» ⌝ }
+{
+    lerp_i8(a, b, t_q8)
+}
+
+pub fn apply_gain_q8(sample: i8, gain_q8: u8) -> i8
+    ensures { λ r. ⌜ r ≡ gained sample «gain_q8» ⌝ }
+{
+    (((sample as i32) * (gain_q8 as i32)) >> 8) as i8
+}
+
+pub fn clamp_sample(v: i32) -> i8
+    ensures { λ r. ⌜ r ≡ heldTo (negsuc 127) (pos 127) v ⌝ }
+{
+    if v < -128 {
+        -128
+    } else if v > 127 {
+        127
+    } else {
+        v as i8
+    }
+}
+
+// The gains of the two sides; a pair in the source.
+pub struct PanGains {
+    pub left: u8,
+    pub right: u8,
+}
+
+pub fn pan_to_gains_q8(pan_q8: u8) -> PanGains
+    ensures { λ r. ⌜ r ≡ panGains «pan_q8» ⌝ }
+{
+    let pan = pan_q8 as u32;
+    if pan <= 128 {
+        PanGains {
+            left: 255,
+            right: (pan * 255 / 128) as u8,
+        }
+    } else {
+        PanGains {
+            left: ((255 - pan) * 255 / 127) as u8,
+            right: 255,
+        }
+    }
+}
+
+// A size n on one side of 0, with `room` steps above 96. From an excess of 992 on the quotient is room - 1, so a larger
+// excess is taken for 1,024: then no product leaves 32 bits, and every sum has its answer.
+fn pressed(room: u32, n: u32) -> u32
+    requires { ⌜ (0 < room) × (room ≤ 32) ⌝ }
+    ensures { λ r. ⌜ (r ≡ knee room n) × (r < 96 + room) ⌝ }
+{
+    if n <= 96 {
+        return n;
+    }
+    let e = if n < 1120 { n - 96 } else { 1024 };
+    96 + room * e / (e + room)
+}
+
+pub fn soft_limit_i8(sum: i32) -> i8
+    ensures { λ r. ⌜ r ≡ limited sum ⌝ }
+{
+    if sum < 0 {
+        let n = (0 - (sum as i64)) as u32;
+        0 - (pressed(32, n) as i8)
+    } else {
+        pressed(31, sum as u32) as i8
+    }
+}

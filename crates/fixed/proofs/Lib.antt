@@ -1,2 +1,3 @@
 -- Laws that callers of these functions cite, and what the proofs here share.
 pub mod Laws
+mod Cut

@@ -1,9 +1,15 @@
-// Integer arithmetic of phases, samples and gains.
+// Phases, samples and gains; decibels in floats.rt.
 ghost use mathlib.Core.Path.{_≡_};
 ghost use Prim.Native.Nat.{_+_, _≤_, _<_};
 ghost use lib.IntN.{pos, negsuc};
 ghost use Rattle.laws.specs.Whole.{heldTo};
 ghost use Rattle.fixed.specs.Fixed.{increment, indexOf, fractionOf, arch, sine, toward, gained, panGains, knee, limited};
+
+mod floats;
+
+pub use floats::clamp_f32;
+pub use floats::db_to_q8;
+pub use floats::q8_to_db;
 
 // A 32-bit phase; its top bits index a wave.
 pub type Phase = u32;

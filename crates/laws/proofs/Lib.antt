@@ -4,7 +4,9 @@
 --               sub-fits, mag-shr; signs: pos-sub, neg-sub, zero-sub; the rule set `signed` for goals under toZ and ofZ
 --     Held      what heldTo gives: held-id, held-within, within-fits, held-nat
 --     Finite    a rule over all numbers below a bound by one computed test: below, between, same-at, fits-at, i8
+--     F32       float tests as facts about numbers: or-le, nor-lt; cut quotients: cut-ge, cut-lt; literals: zero-is, one-is
 pub mod Bools
 pub mod Signed
 pub mod Held
 pub mod Finite
+pub mod F32

@@ -1,0 +1,103 @@
+//! A script with one bad line, after which nothing is answered.
+
+use crate::draw::Draw;
+use crate::random::{self, RECORDS};
+use crate::script::{Line, Script, mapper};
+
+const LONGEST: usize = 8_194;
+
+const BAD: [fn(&mut Draw) -> Line; 8] = [
+    unknown_code,
+    short,
+    long,
+    lower_case,
+    other_byte,
+    |_| Line::new(),
+    over_long,
+    bad_mode,
+];
+
+pub fn print(script: &mut Script, seed: u64, count: u32) {
+    let mut draw = Draw::new(seed);
+    for _ in 0..draw.below(count + 1) {
+        script.add(&random::any(&mut draw));
+    }
+    // By the seed and not by a draw, so that as many seeds as there are kinds have each kind once.
+    let bad = BAD[seed as usize % BAD.len()](&mut draw);
+    script.add(&bad);
+    // At least one, since without it an empty line that lacked its newline would be no line.
+    for _ in 0..=draw.below(count + 1) {
+        script.add(&random::any(&mut draw));
+    }
+    script.ends_with_newline = draw.one_in(2);
+}
+
+fn unknown_code(draw: &mut Draw) -> Line {
+    let mut line = random::any(draw);
+    let code = loop {
+        let code = draw.u8();
+        if RECORDS.iter().all(|record| record.0 != code) {
+            break code;
+        }
+    };
+    line.splice(..2, format!("{code:02X}").into_bytes());
+    line
+}
+
+/// Cut anywhere. A mapper record may have any number of samples, so it is cut inside its first fields.
+fn short(draw: &mut Draw) -> Line {
+    let mut line = random::any(draw);
+    let below = match line.starts_with(b"57") {
+        true => 16,
+        false => line.len() as u32,
+    };
+    line.truncate(1 + draw.below(below - 1) as usize);
+    line
+}
+
+/// With one digit or more after its end. A mapper record is made longer by an odd number of digits.
+fn long(draw: &mut Draw) -> Line {
+    let mut line = random::any(draw);
+    let more = match line.starts_with(b"57") {
+        true => 1 + 2 * draw.below(3),
+        false => 1 + draw.below(20),
+    };
+    line.extend((0..more).map(|_| b'0'));
+    line
+}
+
+fn lower_case(draw: &mut Draw) -> Line {
+    let byte = draw.pick(b"abcdef");
+    replaced(draw, byte)
+}
+
+fn other_byte(draw: &mut Draw) -> Line {
+    let byte = draw.pick(b"/:@G`gxX+-. \t\r\0\x0B\x7F\x80\xB0\xFF");
+    if draw.one_in(4) {
+        let mut line = random::any(draw);
+        line.push(byte);
+        return line;
+    }
+    replaced(draw, byte)
+}
+
+fn replaced(draw: &mut Draw, byte: u8) -> Line {
+    let mut line = random::any(draw);
+    let place = draw.below(line.len() as u32) as usize;
+    line[place] = byte;
+    line
+}
+
+/// A mapper record with too many samples, by one digit or by many.
+fn over_long(draw: &mut Draw) -> Line {
+    let far = draw.below(200_000) as usize;
+    let mut line = mapper(draw.below(3) as u8, 1_000, 0, &[]);
+    line.resize(LONGEST + draw.pick(&[1, 2, 3, 4, far]).max(1), b'1');
+    line
+}
+
+/// The period may be one that is refused: a bad field comes before any refusal.
+fn bad_mode(draw: &mut Draw) -> Line {
+    let beyond = 3 + draw.below(253) as u8;
+    mapper(draw.pick(&[3, 255, beyond]), draw.u16(), 0, &[1, -1])
+}

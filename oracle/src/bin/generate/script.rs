@@ -1,0 +1,119 @@
+//! Records as lines, and a script of them on standard output.
+
+use std::io::{BufWriter, Stdout, Write, stdout};
+
+/// A line without its newline.
+pub type Line = Vec<u8>;
+
+/// A field's bits and its width in bytes.
+pub type Field = (u32, u32);
+
+pub fn u8(value: u8) -> Field {
+    (value as u32, 1)
+}
+
+pub fn i8(value: i8) -> Field {
+    (value as u32, 1)
+}
+
+pub fn u16(value: u16) -> Field {
+    (value as u32, 2)
+}
+
+pub fn u32(value: u32) -> Field {
+    (value, 4)
+}
+
+pub fn i32(value: i32) -> Field {
+    (value as u32, 4)
+}
+
+pub fn record(code: u8, fields: &[Field]) -> Line {
+    let mut line = Line::new();
+    push_hex(&mut line, u8(code));
+    for field in fields {
+        push_hex(&mut line, *field);
+    }
+    line
+}
+
+fn push_hex(line: &mut Line, (bits, width): Field) {
+    for place in (0..2 * width).rev() {
+        line.push(b"0123456789ABCDEF"[(bits >> (4 * place)) as usize & 15]);
+    }
+}
+
+/// An envelope with its rate and ticks: the fields of records 48 and 58.
+#[derive(Clone, Copy)]
+pub struct Envelope {
+    pub attack: u16,
+    pub decay: u16,
+    pub sustain: u8,
+    pub release: u16,
+    pub rate: u32,
+    pub before: u16,
+    pub after: u16,
+}
+
+impl Envelope {
+    pub fn record(&self, code: u8) -> Line {
+        let fields = [
+            u16(self.attack),
+            u16(self.decay),
+            u8(self.sustain),
+            u16(self.release),
+            u32(self.rate),
+            u16(self.before),
+            u16(self.after),
+        ];
+        record(code, &fields)
+    }
+}
+
+pub fn mapper(mode: u8, period: u16, integrator: i32, samples: &[i8]) -> Line {
+    let mut fields = vec![u8(mode), u16(period), i32(integrator)];
+    fields.extend(samples.iter().map(|sample| i8(*sample)));
+    record(0x57, &fields)
+}
+
+/// A script on its way out. A newline goes before every line but the first, so that the last can be left without one.
+pub struct Script {
+    out: BufWriter<Stdout>,
+    begun: bool,
+    pub ends_with_newline: bool,
+}
+
+impl Script {
+    pub fn new() -> Self {
+        Self {
+            out: BufWriter::with_capacity(1 << 16, stdout()),
+            begun: false,
+            ends_with_newline: true,
+        }
+    }
+
+    pub fn add(&mut self, line: &[u8]) {
+        if self.begun {
+            self.write(b"\n");
+        }
+        self.begun = true;
+        self.write(line);
+    }
+
+    pub fn record(&mut self, code: u8, fields: &[Field]) {
+        self.add(&record(code, fields));
+    }
+
+    pub fn finish(mut self) {
+        if self.begun && self.ends_with_newline {
+            self.write(b"\n");
+        }
+        self.out.flush().unwrap_or_else(|_| std::process::exit(1));
+    }
+
+    /// Ends the program where the reader has gone.
+    fn write(&mut self, bytes: &[u8]) {
+        let written = self.out.write_all(bytes);
+        written.unwrap_or_else(|_| std::process::exit(1));
+    }
+}

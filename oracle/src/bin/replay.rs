@@ -1,5 +1,5 @@
 //! Reads a script on standard input and prints the Rust original's answers: records 40 to 48 of the replay format and our
-//! own 50 to 58 (docs/REPLAY.md). A bad line prints FFFF and ends the run.
+//! own 50 to 59 (docs/REPLAY.md). A bad line prints FFFF and ends the run.
 
 use oracle::Peek;
 use oracle::config::crossfade_step_q8;
@@ -30,7 +30,7 @@ type Answered = Result<(), Bad>;
 type Answer = fn(&mut Fields, &mut Answers) -> Answered;
 
 /// Code, least and greatest number of bytes after it, and what answers it.
-const RECORDS: [(u8, usize, usize, Answer); 18] = [
+const RECORDS: [(u8, usize, usize, Answer); 19] = [
     (0x40, 2, 2, gain),
     (0x41, 3, 3, lerp),
     (0x42, 4, 4, limiter),
@@ -49,6 +49,7 @@ const RECORDS: [(u8, usize, usize, Answer); 18] = [
     (0x56, 1, 1, conversions),
     (0x57, 7, 4_096, duty_mapper),
     (0x58, 15, 15, envelope_state),
+    (0x59, 1, 1, conversion_to_i32),
 ];
 
 fn main() -> io::Result<()> {
@@ -331,10 +332,13 @@ fn kind(fields: &mut Fields, answers: &mut Answers) -> Answered {
 fn conversions(fields: &mut Fields, answers: &mut Answers) -> Answered {
     let sample = fields.i8();
     answers.hex(output::pcm_to_i16(sample) as i64, 4);
-    answers.hex(output::pcm_to_i32(sample) as i64, 8);
     answers.hex(output::pcm_to_dac_u8(sample) as i64, 2);
     answers.hex(output::pcm_to_dac_u12(sample) as i64, 4);
     answers.line(output::pcm_to_dac_u16(sample) as i64, 4)
+}
+
+fn conversion_to_i32(fields: &mut Fields, answers: &mut Answers) -> Answered {
+    answers.line(output::pcm_to_i32(fields.i8()) as i64, 8)
 }
 
 fn duty_mapper(fields: &mut Fields, answers: &mut Answers) -> Answered {

@@ -8,7 +8,7 @@ type Drawn = fn(&mut Draw) -> Line;
 pub const MOST_SAMPLES: u32 = 4_089;
 
 /// Every record that is read today.
-pub const RECORDS: [(u8, Drawn); 18] = [
+pub const RECORDS: [(u8, Drawn); 19] = [
     (0x40, |d| record(0x40, &[i8(d.i8()), u8(d.u8())])),
     (0x41, |d| {
         record(0x41, &[i8(d.i8()), i8(d.i8()), u8(d.u8())])
@@ -31,6 +31,7 @@ pub const RECORDS: [(u8, Drawn); 18] = [
     (0x56, |d| record(0x56, &[i8(d.i8())])),
     (0x57, duty_mapper),
     (0x58, |d| envelope(d).record(0x58)),
+    (0x59, |d| record(0x59, &[i8(d.i8())])),
 ];
 
 pub fn any(draw: &mut Draw) -> Line {

@@ -8,7 +8,7 @@ use crate::script::{Script, i8, mapper, u8, u16, u32};
 use crate::sets;
 
 pub fn print(script: &mut Script) {
-    for code in [0x45, 0x43, 0x56, 0x55, 0x51] {
+    for code in [0x45, 0x43, 0x56, 0x59, 0x55, 0x51] {
         sets::bytes(script, code);
     }
     sets::limiter(script);

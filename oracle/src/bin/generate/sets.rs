@@ -21,7 +21,10 @@ pub const SETS: [(&str, Print); 15] = [
     ("lerp", |script, _| lerp(script)),
     ("phase", |script, _| phase(script)),
     ("increment", |script, _| increment(script)),
-    ("convert", |script, _| bytes(script, 0x56)),
+    ("convert", |script, _| {
+        bytes(script, 0x56);
+        bytes(script, 0x59)
+    }),
     ("kind", |script, _| bytes(script, 0x55)),
     ("clamp", |script, _| clamp(script)),
     ("mapper", |script, _| mapper(script)),

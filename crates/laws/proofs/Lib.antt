@@ -1,7 +1,7 @@
 -- Lemmas that more than one crate cites.
 --     Bools     a Bool test and what it tells: never, ltZ-true, ltZ-false, eq-read, ne-read
 --     Signed    sizes of signed numbers, by which a value fits its width: abs≤, abs-fits, add≤, sub≤, mul≤, abs-quot, neg-fits,
---               sub-fits, mag-shr; signs: pos-sub, neg-sub, zero-sub; the rule set `signed` for goals under toZ and ofZ
+--               sub-fits, sub-bounds, mul-fits, modulo-bits, mag-shr; signs: pos-sub, neg-sub, sub-neg, neg-mul, neg-quot, zero-sub, sub-flip; the rule set `signed` for goals under toZ and ofZ
 --     Held      what heldTo gives: held-id, held-within, within-fits, held-nat
 --     Finite    a rule over all numbers below a bound by one computed test: below, between, same-at, fits-at, i8
 --     F32       float tests as facts about numbers: or-le, nor-lt; cut quotients: cut-ge, cut-lt; literals: zero-is, one-is

@@ -50,3 +50,17 @@ held-nat lo hi z h = by-test z (ltZ z (pos lo)) refl (ltZ (pos hi) z) refl
     by-test z false e true d = record { up = tt; top = omega arith }
     by-test (pos n) false e false d = record { up = tt; top = ltb-false hi n d }
     by-test (negsuc k) false e false d = never (sym e)
+
+-- what lies within two naturals is one
+pub record Between (lo hi : ℕ) (z : ℤ) : Type 0 where
+  pub up : T (nonNeg z)
+  pub least : lo ≤ natAbs z
+  pub most : natAbs z ≤ hi
+
+pub held-between : (lo hi : ℕ) (z : ℤ) → lo ≤ hi → Between lo hi (heldTo (pos lo) (pos hi) z)
+held-between lo hi z h =
+    by-sign (heldTo (pos lo) (pos hi) z) (held-within (pos lo) (pos hi) z (le-ltb lo lo (omega arith)) (le-ltb hi hi (omega arith)) (le-ltb hi lo h))
+  where
+    by-sign : (z : ℤ) → Within (pos lo) (pos hi) z → Between lo hi z
+    by-sign (pos n) w = record { up = tt; least = ltb-false n lo (w .low); most = ltb-false hi n (w .high) }
+    by-sign (negsuc k) w = never (sym (w .low))

@@ -2,7 +2,7 @@
 --     Bools     a Bool test and what it tells: never, ltZ-true, ltZ-false, eq-read, ne-read
 --     Signed    sizes of signed numbers, by which a value fits its width: abs≤, abs-fits, add≤, sub≤, mul≤, abs-quot, neg-fits,
 --               sub-fits, sub-size, mag-shr, mag-add, mag-fits; signs: pos-sub, neg-sub, zero-sub; the rule set `signed` for goals under toZ and ofZ
---     Held      what heldTo gives: held-id, held-within, within-fits, held-nat
+--     Held      what heldTo gives: held-id, held-within, within-fits, held-between
 --     Wrap      what wrap32 gives: wrap-id for what fits, wrap-low and wrap-high for a lap more or less
 --     Finite    a rule over all numbers below a bound by one computed test: below, between, same-at, fits-at, i8
 pub mod Bools

@@ -1,11 +1,12 @@
 -- Laws of the definitions, by which callers and proofs bound what they give. Assumes nothing.
-use mathlib.Core.Path.{_≡_, refl, sym, ap, _∙_}
+use mathlib.Core.Path.{_≡_}
 use mathlib.Core.Bool.{Bool, true, false, cond}
 use Prim.Native.Nat.{ℕ, zero, suc, _+_, _-_, _*_, _/_, _^_, _≤_, _<_}
 use native.Mathlib.Nat.{le-trans, lt-of-lt-of-le, mul-le-mul-right}
 use native.Mathlib.Omega.{arith}
+use borrow.Author.Tests.{le-ltb}
 use lib.Dec.{T, leb, ltb, leb→le, ltb→lt, leb·zero}
-use lib.IntN.{ℤ, pos, negsuc, natAbs, negℤ, subℕ, _+ℤ_, _-ℤ_, _*ℤ_}
+use lib.IntN.{ℤ, pos, negsuc, natAbs, negℤ, _+ℤ_, _-ℤ_, _*ℤ_}
 use lib.Signed.{mag, leZ, nonNeg, quotZ, natAbs-le}
 use mir.Syntax.{Width, w8, w16, w32}
 use mir.Val.{Fits, SFits, hbits}
@@ -13,9 +14,10 @@ use mir.Facts.{sfits-widen}
 use Rattle.laws.specs.Made.{Made}
 use Rattle.laws.specs.Whole.{heldTo}
 use Rattle.laws.proofs.Held.{Between, held-between}
-use Rattle.laws.proofs.Signed.{mag≤abs, mag-add, mag-fits, sub-size, pos-sub, abs≤, abs-fits, abs-quot, add≤, sub≤, mul≤}
+use Rattle.laws.proofs.Signed.{mag≤abs, mag-add, sub-size, pos-sub, abs≤, abs-fits, abs-quot, add≤, sub≤, mul≤}
 use Rattle.output.specs.Shapers.{level, shaped2ndOrder, ValidShaper, ValidShaped, fresh2ndOrder}
-use Rattle.output.specs.Duty.{duty, freshMapper, mappedBy, mapped, ValidMapper, ValidMapped}
+use Rattle.output.specs.declared.PeriodRead.the-variants.{Accepted}
+use Rattle.output.specs.Duty.{duty, periodRead, freshMapper, mappedBy, mapped, ValidMapper, ValidMapped}
 use Rattle.output.specs.Levels.{raised}
 use Rattle.output.specs.declared.DutyMode.{DutyMode}
 use Rattle.output.specs.declared.DutyMode.the-variants as M
@@ -131,6 +133,10 @@ duty-fits s p fs fp =
 
 pub duty-between : (s : ℤ) (p : ℕ) → 2 ≤ p → Between 1 (p - 1) (heldTo (pos 1) (pos (p - 1)) (pos (p / 2) +ℤ offset s p))
 duty-between s p h = held-between 1 (p - 1) _ (omega arith)
+
+-- a period of at least 2 is accepted
+pub period-accepted : (n : ℕ) → 2 ≤ n → periodRead n ≡ Accepted (record { counts = n })
+period-accepted n h = rw (le-ltb n 2 h)
 
 pub duty-least : (s : ℤ) (p : ℕ) → 2 ≤ p → 1 ≤ duty s p
 unfolding duty

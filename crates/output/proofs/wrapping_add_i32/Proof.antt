@@ -1,8 +1,8 @@
 -- `output::wrapping_add_i32` meets its contract. The sum fits an i64, and a lap more or less brings it back to an i32.
-use borrow.Author.Tests.{ltb-true, ltb-false}
+use borrow.Author.Tests.{ltb-true}
 use mathlib.Core.Path.{_≡_, sym, _∙_}
-use mathlib.Core.Bool.{true, false}
-use Prim.Native.Nat.{ℕ, suc, _≤_}
+use mathlib.Core.Bool.{true}
+use Prim.Native.Nat.{suc, _≤_}
 use native.Mathlib.Omega.{arith}
 use lib.IntN.{ℤ, pos, negsuc, natAbs, _+ℤ_, _-ℤ_}
 use lib.Signed.{ltZ}
@@ -11,7 +11,7 @@ use mir.Val.{SFits, toZ, ofZ}
 use mir.Facts.{sfits-widen}
 use mir.ValLaws.{toZ-ofZ}
 use Rattle.laws.proofs.Bools.{never}
-use Rattle.laws.proofs.Held.{Within, within-fits}
+use Rattle.laws.proofs.Held.{within-fits}
 use Rattle.laws.proofs.Signed.{signed, abs≤, abs-fits, add≤, sub-fits}
 use Rattle.laws.proofs.Wrap.{wrap-id, wrap-low, wrap-high}
 use Rattle.output.proofs.wrapping_add_i32.Statement.{statement}

@@ -14,7 +14,7 @@ use Rattle.output.proofs.Laws.{made, Scaled, scaled-fits, level-size, l
 use Rattle.output.proofs.SigmaDelta2ndOrder.shape.Statement.{statement}
 use Rattle.output.proofs.SigmaDelta2ndOrder.shape.Tie as tie
 
--- what is known at entry: the errors fit, so does 256s, and the errors that the definition gives are in range
+-- at entry: both errors fit, and so does 256s
 record Known (e1 e2 s : ℤ) : Type 0 where
   first : SFits w32 e1
   second : SFits w32 e2

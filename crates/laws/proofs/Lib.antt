@@ -4,9 +4,11 @@
 --               sub-fits, sub-size, mag-shr, mag-add, mag-fits; signs: pos-sub, neg-sub, zero-sub; the rule set `signed` for goals under toZ and ofZ
 --     Held      what heldTo gives: held-id, held-within, within-fits, held-between
 --     Wrap      what wrap32 gives: wrap-id for what fits, wrap-low and wrap-high for a lap more or less
+--     Made      a value that is x, which is valid, is Made: made
 --     Finite    a rule over all numbers below a bound by one computed test: below, between, same-at, fits-at, i8
 pub mod Bools
 pub mod Signed
 pub mod Held
 pub mod Wrap
+pub mod Made
 pub mod Finite

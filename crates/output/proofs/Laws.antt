@@ -11,7 +11,6 @@ use lib.Signed.{mag, leZ, nonNeg, quotZ, natAbs-le}
 use mir.Syntax.{Width, w8, w16, w32}
 use mir.Val.{Fits, SFits, hbits}
 use mir.Facts.{sfits-widen}
-use Rattle.laws.specs.Made.{Made}
 use Rattle.laws.specs.Whole.{heldTo}
 use Rattle.laws.proofs.Held.{Between, held-between}
 use Rattle.laws.proofs.Signed.{mag≤abs, mag-add, sub-size, pos-sub, abs≤, abs-fits, abs-quot, add≤, sub≤, mul≤}
@@ -23,10 +22,6 @@ use Rattle.output.specs.declared.DutyMode.{DutyMode}
 use Rattle.output.specs.declared.DutyMode.the-variants as M
 use Rattle.output.specs.declared.PwmMapper.{PwmMapper}
 use Rattle.output.specs.declared.SigmaDelta2ndOrder.{SigmaDelta2ndOrder}
-
--- r is x, which is valid
-pub made : {A : Type 0} {P : A → Type 0} {x r : A} → r ≡ x → P x → Made P x r
-made e h = record { same = e; valid = rw e h }
 
 -- a sample times m
 mag-neg : (n m : ℕ) → n ≤ suc m → mag (negℤ (pos n)) ≤ m
@@ -94,7 +89,7 @@ stage-error e x h k = level-rest (e +ℤ x) (mag-add e x 32767 32767 h k)
 pub valid-fresh : ValidShaper fresh2ndOrder
 valid-fresh = record { first = omega arith; second = omega arith }
 
--- for ever: every shaper that comes of a new one by samples is valid
+-- each sample keeps the errors in range, so from a new shaper on they stay there for ever
 pub valid-shaped : (d : SigmaDelta2ndOrder) (s : ℤ) → ValidShaper d → SFits w8 s → ValidShaped (shaped2ndOrder d s)
 unfolding shaped2ndOrder
 valid-shaped d s h f =

@@ -6,9 +6,10 @@ use mir.Syntax.{w8}
 use mir.Val.{SFits}
 use mir.ValLaws.{toZ-ofZ}
 use Rattle.laws.specs.Made.{Made}
+use Rattle.laws.proofs.Made.{made}
 use Rattle.output.specs.Duty.{mapped, ValidMapped}
 use Rattle.output.specs.declared.Mapped.{Mapped}
-use Rattle.output.proofs.Laws.{made, valid-mapped}
+use Rattle.output.proofs.Laws.{valid-mapped}
 use Rattle.output.proofs.PwmMapper.map.Statement.{statement}
 use Rattle.output.proofs.PwmMapper.map.Tie as tie
 

@@ -9,8 +9,9 @@ use mir.Syntax.{w8, w32}
 use mir.Val.{SFits, toZ, ofZ}
 use mir.ValLaws.{toZ-ofZ}
 use Rattle.laws.proofs.Signed.{signed, mag≤abs, mag-fits, abs-fits}
+use Rattle.laws.proofs.Made.{made}
 use Rattle.output.specs.Shapers.{level, shaped2ndOrder, ValidShaped}
-use Rattle.output.proofs.Laws.{made, Scaled, scaled-fits, level-size, levels-size, valid-shaped}
+use Rattle.output.proofs.Laws.{Scaled, scaled-fits, level-size, levels-size, valid-shaped}
 use Rattle.output.proofs.SigmaDelta2ndOrder.shape.Statement.{statement}
 use Rattle.output.proofs.SigmaDelta2ndOrder.shape.Tie as tie
 

@@ -141,3 +141,30 @@ mul-fits {w} {a} {b} {m} {n} h k t = record { fits = lt-of-le-of-lt (mul-le-mul 
 pub modulo-bits : (z : ℤ) → SFits w8 z → modulo z 256 ≡ ofZ w8 z
 modulo-bits (pos n) f = mod-eq-of-lt (omega arith)
 modulo-bits (negsuc n) f = let h : n < 256 = omega arith in rw (mod-eq-of-lt h)
+
+-- ---- bounds on mag, which is one tighter below 0
+pub mag-add : (a b : ℤ) (m n : ℕ) → natAbs a ≤ m → mag b ≤ n → mag (a +ℤ b) ≤ m + n
+mag-add (pos a) (pos b) m n h k = omega arith
+mag-add (pos a) (negsuc b) m n h k = by-test (ltb a (suc b)) refl
+  where
+    by-test : (t : Bool) → ltb a (suc b) ≡ t → mag (cond t (negsuc (suc b - suc a)) (pos (a - suc b))) ≤ m + n
+    by-test true e = omega (arith, ltb-true a (suc b) e)
+    by-test false e = omega (arith, ltb-false a (suc b) e)
+mag-add (negsuc a) (pos b) m n h k = by-test (ltb b (suc a)) refl
+  where
+    by-test : (t : Bool) → ltb b (suc a) ≡ t → mag (cond t (negsuc (suc a - suc b)) (pos (b - suc a))) ≤ m + n
+    by-test true e = omega (arith, ltb-true b (suc a) e)
+    by-test false e = omega (arith, ltb-false b (suc a) e)
+mag-add (negsuc a) (negsuc b) m n h k = omega arith
+
+-- z fits, from a bound on mag: `mag-fits h tt`
+pub mag-fits : {w : Width} {z : ℤ} (n : ℕ) → mag z ≤ n → T (ltb n (2 ^ hbits w)) → SFits w z
+mag-fits {w} {z} n h t = record { sfits = lt-of-le-of-lt h (ltb→lt n (2 ^ hbits w) t) }
+
+-- a difference of two naturals, from bounds both ways
+pub sub-size : (a b n : ℕ) → a ≤ b + n → b ≤ a + n → natAbs (subℕ a b) ≤ n
+sub-size a b n h k = by-test (ltb a b) refl
+  where
+    by-test : (t : Bool) → ltb a b ≡ t → natAbs (cond t (negsuc (b - suc a)) (pos (a - b))) ≤ n
+    by-test true e = omega (arith, ltb-true a b e)
+    by-test false e = omega (arith, ltb-false a b e)

@@ -3,7 +3,8 @@ use mathlib.Core.Path.{refl, _∙_}
 use borrow.Author.Needs.{needs}
 use Rattle.envelope.specs.declared.AdsrPhase.the-variants as P
 use Rattle.envelope.specs.Adsrs.{ticked, advancedToward, inPhase, beganDecay, sustained, ended}
-use Rattle.envelope.proofs.Laws.{made, valid-ticked, goes-on, ends}
+use Rattle.laws.proofs.Made.{made}
+use Rattle.envelope.proofs.Laws.{valid-ticked, goes-on, ends}
 use Rattle.envelope.proofs.Adsr.tick.Statement.{statement}
 use Rattle.envelope.proofs.Adsr.tick.Tie as tie
 

@@ -1,0 +1,77 @@
+-- Runs of digits laid over a buffer. Assumes nothing.
+use mathlib.Core.Path.{_≡_, refl, sym, ap, _∙_}
+use mathlib.Core.List.{List, [], _∷_, _++_, append-assoc}
+use Prim.Native.Nat.{ℕ, zero, suc, _+_, _-_, _*_, _/_, _%_, _≤_, _<_}
+use native.Mathlib.Nat.{lt-irrefl, add-zero, add-suc, suc-add, add-assoc}
+use native.Mathlib.Omega.{arith}
+use lib.ListN.{length, set, take, drop, length-append, length-set}
+use lib.Seq.{sets, sets-eq, set-comm}
+use mathlib.Core.Bool.{Bool, true, false, _&&_}
+use borrow.Author.Tests.{le-leb, lt-leb}
+use lib.Dec.{leb}
+use Rattle.script.specs.Hex.{between, digitChar, hexOf, Wrote}
+
+-- where a byte lies
+pub inside : (lo hi c : ℕ) → lo ≤ c → c ≤ hi → between lo hi c ≡ true
+unfolding between
+inside lo hi c h k = rw (le-leb lo c h, le-leb c hi k)
+
+pub under : (lo hi c : ℕ) → c < lo → between lo hi c ≡ false
+unfolding between
+under lo hi c h = rw (lt-leb lo c h)
+
+pub over : (lo hi c : ℕ) → hi < c → between lo hi c ≡ false
+unfolding between
+over lo hi c h = rw (lt-leb c hi h) (by (leb lo c))
+  where
+    by : (b : Bool) → (b && false) ≡ false
+    by true = refl
+    by false = refl
+
+pub length-hexOf : (d n : ℕ) → length (hexOf d n) ≡ d
+unfolding hexOf
+length-hexOf zero n = refl
+length-hexOf (suc d) n = rw (length-append, length-hexOf d (n / 16)) (omega arith)
+
+-- the last digit by itself
+pub hexOf-last : (d n : ℕ) → 0 < d → hexOf d n ≡ hexOf (d - 1) (n / 16) ++ (digitChar (n % 16) ∷ [])
+unfolding hexOf
+hexOf-last zero n h = absurd (lt-irrefl 0 h)
+hexOf-last (suc d) n h = let e : suc d - 1 ≡ d = omega arith in rw e
+
+module _ {A : Type 0} where
+  -- one run after another
+  pub sets-append : (l : List A) (a : ℕ) (x y : List A) → sets (sets l a x) (a + length x) y ≡ sets l a (x ++ y)
+  sets-append l a [] y = rw add-zero
+  sets-append l a (v ∷ x) y = rw (add-suc, ← suc-add) (sets-append (set l a v) (suc a) x y)
+
+  -- an element stored before the run that it follows
+  pub sets-last : (l : List A) (a : ℕ) (x : List A) (v : A) → sets (set l (a + length x) v) a x ≡ sets l a (x ++ (v ∷ []))
+  sets-last l a [] v = rw add-zero
+  sets-last l a (u ∷ x) v =
+      rw (set-comm l (a + suc (length x)) a v u (λ e. omega arith), add-suc, ← suc-add) (sets-last (set l a u) (suc a) x v)
+
+-- two texts written one after the other are one
+pub then : {a b c : List ℕ} {at m n : ℕ} {x y : List ℕ} → Wrote a at x b m → Wrote b m y c n → Wrote a at (x ++ y) c n
+then {a} {b} {c} {at} {m} {n} {x} {y} p q =
+    record {
+      laid = rw (q .laid, p .place, p .laid, sets-append a at x y);
+      place = rw (q .place, p .place, length-append, add-assoc);
+    }
+
+-- the digits written from the last one on: all are left at the start, one less after a turn, none at the end
+pub put-start : (out : List ℕ) (at digits value : ℕ) → sets out at (hexOf (at + digits - at) value) ≡ sets out at (hexOf digits value)
+put-start out at digits value = let e : at + digits - at ≡ digits = omega arith in rw e
+
+pub put-turn : (out : List ℕ) (at place rest : ℕ) → at < place → sets (set out (place - 1) (digitChar (rest % 16))) at (hexOf (place - 1 - at) (rest / 16)) ≡ sets out at (hexOf (place - at) rest)
+put-turn out at place rest h =
+    let d = place - 1 - at in
+    let e : place - 1 ≡ at + length (hexOf d (rest / 16)) = rw (length-hexOf d (rest / 16)) (omega arith) in
+    let f : place - at - 1 ≡ d = omega arith in
+    rw (hexOf-last (place - at) rest (omega arith), f, ← sets-last out at (hexOf d (rest / 16)) (digitChar (rest % 16)), ← e)
+
+pub put-end : (before after : List ℕ) (at place digits value rest : ℕ) → place ≤ at → sets after at (hexOf (place - at) rest) ≡ sets before at (hexOf digits value) → Wrote before at (hexOf digits value) after (at + digits)
+unfolding hexOf
+put-end before after at place digits value rest h e =
+    let z : place - at ≡ 0 = omega arith in
+    record { laid = rw z at e; place = rw (length-hexOf digits value) }

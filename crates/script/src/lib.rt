@@ -1,0 +1,2 @@
+// Answers of a script's lines.
+mod hex;

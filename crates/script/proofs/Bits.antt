@@ -7,7 +7,7 @@ use native.Mathlib.Omega.{arith}
 use borrow.Author.Tests.{le-ltb}
 use lib.Dec.{T}
 use lib.IntN.{ℤ, pos, negsuc, natAbs, _-ℤ_}
-use lib.Signed.{ltZ, nonNeg}
+use lib.Signed.{ltZ, nonNeg, mag}
 use mir.Syntax.{Width}
 use mir.Val.{SFits, Fits, bits, hbits, toZ, ofZ}
 use mir.ValLaws.{toZ-pos, toZ-ofZ, pow-bits}
@@ -70,3 +70,7 @@ plain w z f l = by-sign z f (rw (toZ-ofZ w z f) at l)
     by-sign : (z : ℤ) → SFits w z → ltZ z (pos 0) ≡ false → Plain w z
     by-sign (pos n) f l = record { up = tt; small = record { fits = omega (arith, pow-bits w) }; same = refl }
     by-sign (negsuc n) f l = never (sym l)
+
+-- a value of the width, written as bits and read back
+pub back : (w : Width) (z : ℤ) → mag z < 2 ^ hbits w → toZ w (ofZ w z) ≡ z
+back w z h = toZ-ofZ w z (record { sfits = h })

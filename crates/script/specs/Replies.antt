@@ -1,0 +1,81 @@
+-- The records of the replay format: for each its fields, from byte 1 on, and what it prints. Assumes nothing.
+use Prim.Native.Nat.{ℕ, _+_, _*_, _^_}
+use mathlib.Core.List.{List}
+use lib.IntN.{ℤ, pos, negsuc}
+use lib.Ieee.{binary32, ofBits, toBits}
+use mir.Syntax.{w8, w32}
+use mir.Val.{toZ, ofZ}
+use Rattle.laws.specs.Whole.{heldTo}
+use Rattle.error.specs.Numbers.{numberOf}
+use Rattle.error.specs.declared.AudioError.{AudioError}
+use Rattle.error.specs.declared.AudioError.the-variants as E
+use Rattle.fixed.specs.Fixed.{increment, indexOf, fractionOf, sine, toward, gained, panGains}
+use Rattle.fixed.specs.Decibels.{gainOfDb, dbOfGain}
+use Rattle.tier.specs.Kinds.{kindOf, byteOf}
+use Rattle.tier.specs.declared.KindRead.{KindRead}
+use Rattle.tier.specs.declared.KindRead.the-variants.{Kind, Unknown}
+use Rattle.script.specs.Hex.{byteAt, wideAt, longAt}
+use Rattle.script.specs.declared.Reply.{Reply}
+use Rattle.script.specs.declared.Reply.the-variants.{Bad, Word}
+
+-- fields with a sign, in two's complement
+abbrev pub sampleAt : List ℕ → ℕ → ℤ
+sampleAt l k = toZ w8 (byteAt l k)
+
+abbrev pub sumAt : List ℕ → ℕ → ℤ
+sumAt l k = toZ w32 (longAt l k)
+
+-- 40, gain: "sample i8 (1), gain (1) | 2 digits"
+unfoldable pub gainReply : List ℕ → Reply
+gainReply l = Word (ofZ w8 (gained (sampleAt l 1) (byteAt l 2))) 2
+
+-- 41, lerp: "a i8 (1), b i8 (1), fraction (1) | 2 digits"
+unfoldable pub lerpReply : List ℕ → Reply
+lerpReply l = Word (ofZ w8 (toward (sampleAt l 1) (sampleAt l 2) (byteAt l 3))) 2
+
+-- 43, pan gains: "pan (1) | left, right, 2 digits each"
+unfoldable pub panReply : List ℕ → Reply
+panReply l = let g = panGains (byteAt l 1) in Word (256 * g .left + g .right) 4
+
+-- 44, phase increment: "Hz (4), rate (4) | 8 digits"
+unfoldable pub incrementReply : List ℕ → Reply
+incrementReply l = Word (increment (longAt l 1) (longAt l 5)) 8
+
+-- 45, sine: "index (1) | 2 digits"
+unfoldable pub sineReply : List ℕ → Reply
+sineReply l = Word (ofZ w8 (sine (byteAt l 1))) 2
+
+-- 50, decibels to gain: "binary32 by its bits (4) | 2 digits"
+unfoldable pub toGainReply : List ℕ → Reply
+toGainReply l = Word (gainOfDb (ofBits binary32 (longAt l 1))) 2
+
+-- 51, gain to decibels: "gain (1) | 8 digits, the binary32's bits"
+unfoldable pub toDecibelsReply : List ℕ → Reply
+toDecibelsReply l = Word (toBits binary32 (dbOfGain (byteAt l 1))) 8
+
+-- 52, phase: "phase (4) | index, fraction, 2 digits each"
+unfoldable pub phaseReply : List ℕ → Reply
+phaseReply l = Word (256 * indexOf (longAt l 1) + fractionOf (longAt l 1)) 4
+
+-- 53, crossfade: "a i8 (1), b i8 (1), t (1) | 2 digits"
+unfoldable pub crossfadeReply : List ℕ → Reply
+crossfadeReply l = Word (ofZ w8 (toward (sampleAt l 1) (sampleAt l 2) (byteAt l 3))) 2
+
+-- 54, clamp: "sum i32 (4) | 2 digits"
+unfoldable pub clampReply : List ℕ → Reply
+clampReply l = Word (ofZ w8 (heldTo (negsuc 127) (pos 127) (sumAt l 1))) 2
+
+-- a number of 2 digits, then a value in so many: 00 and the value, or the refusal's and 0
+abbrev pub accepted : ℕ → ℕ → Reply
+accepted digits value = Word value (2 + digits)
+
+abbrev pub refused : ℕ → AudioError → Reply
+refused digits e = Word (numberOf e * 16 ^ digits) (2 + digits)
+
+-- 55, kind byte: "kind (1) | number (9 above 5), then the kind's byte (00 where refused)"
+abbrev pub kindAnswer : KindRead → Reply
+kindAnswer (Kind k) = accepted 2 (byteOf k)
+kindAnswer Unknown = refused 2 E.InvalidEffectKind
+
+unfoldable pub kindReply : List ℕ → Reply
+kindReply l = kindAnswer (kindOf (byteAt l 1))

@@ -9,6 +9,9 @@ use lib.Seq.{sets, sets-eq, set-comm}
 use mathlib.Core.Bool.{Bool, true, false, _&&_}
 use borrow.Author.Tests.{le-leb, lt-leb}
 use lib.Dec.{leb}
+use Rattle.script.specs.declared.Reply.{Reply}
+use Rattle.script.specs.Replies.{replyOf}
+use Rattle.script.specs.Answers.{textOf, replyText, goesOn, Answers}
 use Rattle.script.specs.Hex.{between, digitChar, hexOf, Wrote}
 
 -- where a byte lies
@@ -57,6 +60,7 @@ then {a} {b} {c} {at} {m} {n} {x} {y} p q =
     record {
       laid = rw (q .laid, p .place, p .laid, sets-append a at x y);
       place = rw (q .place, p .place, length-append, add-assoc);
+      room = q .room;
     }
 
 -- the digits written from the last one on: all are left at the start, one less after a turn, none at the end
@@ -70,8 +74,26 @@ put-turn out at place rest h =
     let f : place - at - 1 ≡ d = omega arith in
     rw (hexOf-last (place - at) rest (omega arith), f, ← sets-last out at (hexOf d (rest / 16)) (digitChar (rest % 16)), ← e)
 
-pub put-end : (before after : List ℕ) (at place digits value rest : ℕ) → place ≤ at → sets after at (hexOf (place - at) rest) ≡ sets before at (hexOf digits value) → Wrote before at (hexOf digits value) after (at + digits)
+pub put-end : (before after : List ℕ) (at place digits value rest : ℕ) → at + digits ≤ 262144 → place ≤ at → sets after at (hexOf (place - at) rest) ≡ sets before at (hexOf digits value) → Wrote before at (hexOf digits value) after (at + digits)
 unfolding hexOf
-put-end before after at place digits value rest h e =
+put-end before after at place digits value rest r h e =
     let z : place - at ≡ 0 = omega arith in
-    record { laid = rw z at e; place = rw (length-hexOf digits value) }
+    record { laid = rw z at e; place = rw (length-hexOf digits value); room = r }
+
+-- a text from place 0 on stands before the rest of what there was
+pub record Front (before text after : List ℕ) (n : ℕ) : Type 0 where
+  pub stands : after ≡ text ++ drop (length text) before
+  pub count : n ≡ length text
+
+pub front : {before text after : List ℕ} {n : ℕ} → length before ≡ 262144 → Wrote before 0 text after n → Front before text after n
+front {before} {text} {after} {n} e w =
+    let z : 0 + length text ≡ length text = omega arith in
+    let c = w .place ∙ z in
+    record {
+      stands = w .laid ∙ sets-eq text before 0 (omega (arith, w .room, w .place)) ∙ rw z;
+      count = c;
+    }
+
+pub done : {l before after : List ℕ} {r : Reply} {n : ℕ} → length before ≡ 262144 → replyOf l ≡ r → Wrote before 0 (textOf r l) after n → Answers l before after (record { len = n; more = goesOn r })
+unfolding replyText
+done h e w = let f = front h w in record { text = rw e (f .stands); len = rw e (f .count); more = rw e }

@@ -1,6 +1,6 @@
 -- Hexadecimal as the replay format writes it: digits 0–9 and A–F, two to a byte, fields big-endian. Assumes nothing.
 use mathlib.Core.Path.{_≡_}
-use Prim.Native.Nat.{ℕ, zero, suc, _+_, _-_, _*_, _/_, _%_}
+use Prim.Native.Nat.{ℕ, zero, suc, _+_, _-_, _*_, _/_, _%_, _≤_}
 use mathlib.Core.Bool.{Bool, true, false, cond, _&&_, _||_}
 use mathlib.Core.List.{List, [], _∷_, _++_}
 use lib.Dec.{leb, ltb}
@@ -47,3 +47,4 @@ newline = 10 ∷ []
 pub record Wrote (before : List ℕ) (at : ℕ) (text after : List ℕ) (next : ℕ) : Type 0 where
   pub laid : after ≡ sets before at text
   pub place : next ≡ at + length text
+  pub room : next ≤ 262144

@@ -1,6 +1,9 @@
 -- The records of the replay format: for each its fields, from byte 1 on, and what it prints. Assumes nothing.
 use Prim.Native.Nat.{ℕ, _+_, _*_, _^_}
+use mathlib.Core.Bool.{cond, _&&_}
 use mathlib.Core.List.{List}
+use lib.Dec.{leb, eqb}
+use lib.ListN.{length}
 use lib.IntN.{ℤ, pos, negsuc}
 use lib.Ieee.{binary32, ofBits, toBits}
 use mir.Syntax.{w8, w32}
@@ -14,7 +17,7 @@ use Rattle.fixed.specs.Decibels.{gainOfDb, dbOfGain}
 use Rattle.tier.specs.Kinds.{kindOf, byteOf}
 use Rattle.tier.specs.declared.KindRead.{KindRead}
 use Rattle.tier.specs.declared.KindRead.the-variants.{Kind, Unknown}
-use Rattle.script.specs.Hex.{byteAt, wideAt, longAt}
+use Rattle.script.specs.Hex.{allDigits, byteAt, wideAt, longAt}
 use Rattle.script.specs.declared.Reply.{Reply}
 use Rattle.script.specs.declared.Reply.the-variants.{Bad, Word}
 
@@ -79,3 +82,28 @@ kindAnswer Unknown = refused 2 E.InvalidEffectKind
 
 unfoldable pub kindReply : List ℕ → Reply
 kindReply l = kindAnswer (kindOf (byteAt l 1))
+
+-- a record of so many bytes after its code: "another .. length .. prints FFFF"
+abbrev pub sized : ℕ → ℕ → Reply → Reply
+sized digits bytes r = cond (eqb digits (2 + 2 * bytes)) r Bad
+
+-- the records by their code, each with its length; any other code is bad
+abbrev pub replyFor : ℕ → List ℕ → Reply
+replyFor code l =
+    let n = length l in
+    cond (eqb code 0x40) (sized n 2 (gainReply l))
+    (cond (eqb code 0x41) (sized n 3 (lerpReply l))
+    (cond (eqb code 0x43) (sized n 1 (panReply l))
+    (cond (eqb code 0x44) (sized n 8 (incrementReply l))
+    (cond (eqb code 0x45) (sized n 1 (sineReply l))
+    (cond (eqb code 0x50) (sized n 4 (toGainReply l))
+    (cond (eqb code 0x51) (sized n 1 (toDecibelsReply l))
+    (cond (eqb code 0x52) (sized n 4 (phaseReply l))
+    (cond (eqb code 0x53) (sized n 3 (crossfadeReply l))
+    (cond (eqb code 0x54) (sized n 4 (clampReply l))
+    (cond (eqb code 0x55) (sized n 1 (kindReply l))
+    Bad))))))))))
+
+-- "No good line is longer than 8,194 digits"; the first byte is the code
+unfoldable pub replyOf : List ℕ → Reply
+replyOf l = cond (leb (length l) 8194 && allDigits l) (replyFor (byteAt l 0) l) Bad

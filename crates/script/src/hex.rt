@@ -1,6 +1,6 @@
 // Digits of a line, and answers as digits.
 ghost use mathlib.Core.Path.{_≡_};
-ghost use mathlib.Core.List.{[], _∷_};
+ghost use mathlib.Core.List.{_++_};
 ghost use Prim.Native.Nat.{_+_, _*_, _≤_, _<_};
 ghost use lib.ListN.{getD};
 ghost use mir.Syntax.{w8, w16, w32};
@@ -129,4 +129,12 @@ pub fn end_line(out: &mut [u8; 262144], at: usize) -> usize
 {
     out[at] = 10;
     at + 1
+}
+
+// A first line: the value's digits and the line's end.
+pub fn put_line(out: &mut [u8; 262144], value: u64, digits: u8) -> usize
+    ensures { λ r. ⌜ Wrote (now (out .entry)) 0 (hexOf digits value ++ newline) (now (out .exit)) r ⌝ }
+{
+    let n = put(out, 0, value, digits);
+    end_line(out, n)
 }

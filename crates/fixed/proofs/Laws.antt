@@ -10,7 +10,7 @@ use mir.Syntax.{Width, w8, w32}
 use mir.Val.{Fits, SFits, hbits}
 use mir.Facts.{sfits-widen}
 use Rattle.laws.proofs.Finite.{below}
-use Rattle.laws.proofs.Signed.{abs≤, abs-fits, abs-quot, mul≤, add≤, sub≤, mag-shr, mag≤abs, sub-fits, sub-bounds, quot-neg}
+use Rattle.laws.proofs.Signed.{abs≤, abs-fits, abs-quot, mul≤, add≤, sub≤, mag-shr, mag≤abs, sub-fits, sub-bounds, neg-quot}
 use Rattle.fixed.specs.Fixed.{arch, toward}
 
 -- the arch stays below 64, by one test over its 256 places
@@ -34,7 +34,7 @@ part≤ n t m h p = div-le-of-le-mul m (le-trans (mul-le-mul-left n h) (le-of-eq
 -- t of m parts of the way d from a stay within what a and a + d fit
 way : {w : Width} (a d : ℤ) (t m : ℕ) → t ≤ m → 0 < m → SFits w a → SFits w (a +ℤ d) → SFits w (a +ℤ quotZ (d *ℤ pos t) (pos m))
 way a (pos n) t m h p f g = up a (n * t / m) n (part≤ n t m h p) f g
-way a (negsuc n) t m h p f g = rw (quot-neg (suc n * t) m) (down a (suc n * t / m) (suc n) (part≤ (suc n) t m h p) f g)
+way a (negsuc n) t m h p f g = rw (neg-quot (suc n * t) m) (down a (suc n * t / m) (suc n) (part≤ (suc n) t m h p) f g)
 
 -- each value on the way from a toward b fits, and the last is a sample
 pub record Toward (a b : ℤ) (t : ℕ) : Type 0 where

@@ -2,6 +2,8 @@
 ghost use mathlib.Core.Path.{_≡_};
 ghost use Prim.Native.Nat.{_+_, _≤_, _<_};
 ghost use lib.IntN.{pos, negsuc};
+ghost use mir.Syntax.{w8};
+ghost use mir.Val.{toZ, ofZ};
 ghost use Rattle.laws.specs.Whole.{heldTo};
 ghost use Rattle.fixed.specs.Fixed.{increment, indexOf, fractionOf, arch, sine, toward, gained, panGains, knee, limited};
 
@@ -13,6 +15,12 @@ pub use floats::q8_to_db;
 
 // A 32-bit phase; its top bits index a wave.
 pub type Phase = u32;
+
+// A source's answer to a request for a sample; the source's `Option<i8>`.
+pub enum Given {
+    Sample(i8),
+    None,
+}
 
 // The phase's step per sample, modulo 2^32.
 pub fn hz_to_phase_inc(freq_hz: u32, sample_rate_hz: u32) -> u32
@@ -54,6 +62,28 @@ pub fn sin_table(index: u8) -> i8
         arch_i8(2 * x)
     } else {
         -arch_i8(2 * (255 - x))
+    }
+}
+
+// The source's `b as i8`: the byte read as two's complement.
+pub fn as_i8(b: u8) -> i8
+    ensures { λ r. ⌜ r ≡ toZ w8 b ⌝ }
+{
+    if b < 128 {
+        b as i8
+    } else {
+        (b as i16 - 256) as i8
+    }
+}
+
+// The source's `s as u8`: its bits.
+pub fn as_u8(s: i8) -> u8
+    ensures { λ r. ⌜ r ≡ ofZ w8 s ⌝ }
+{
+    if s < 0 {
+        (s as i16 + 256) as u8
+    } else {
+        s as u8
     }
 }
 

@@ -36,17 +36,21 @@ pub within-fits : {w : Width} {a b : ℕ} {z : ℤ} → T (ltb a (2 ^ hbits w)) 
 within-fits {w = w} {a = a} {b = b} {z = pos n} s t h = record { sfits = omega (arith, ltb-false b n (h .high), ltb→lt b (2 ^ hbits w) t) }
 within-fits {w = w} {a = a} {b = b} {z = negsuc k} s t h = record { sfits = omega (arith, ltb-false a k (h .low), ltb→lt a (2 ^ hbits w) s) }
 
--- held between two naturals it is one
+-- a natural of at most hi
 pub record Natural (hi : ℕ) (z : ℤ) : Type 0 where
   pub up : T (nonNeg z)
   pub top : natAbs z ≤ hi
 
-pub held-nat : (lo hi : ℕ) (z : ℤ) → lo ≤ hi → Natural hi (heldTo (pos lo) (pos hi) z)
-unfolding heldTo
-held-nat lo hi z h = by-test z (ltZ z (pos lo)) refl (ltZ (pos hi) z) refl
+-- held between two naturals it is one of those between
+pub record Between (lo hi : ℕ) (z : ℤ) : Type 0 where
+  pub up : T (nonNeg z)
+  pub least : lo ≤ natAbs z
+  pub most : natAbs z ≤ hi
+
+pub held-between : (lo hi : ℕ) (z : ℤ) → lo ≤ hi → Between lo hi (heldTo (pos lo) (pos hi) z)
+held-between lo hi z h =
+    by-sign (heldTo (pos lo) (pos hi) z) (held-within (pos lo) (pos hi) z (le-ltb lo lo (omega arith)) (le-ltb hi hi (omega arith)) (le-ltb hi lo h))
   where
-    by-test : (z : ℤ) (t : Bool) → ltZ z (pos lo) ≡ t → (u : Bool) → ltZ (pos hi) z ≡ u → Natural hi (cond t (pos lo) (cond u (pos hi) z))
-    by-test z true e u d = record { up = tt; top = h }
-    by-test z false e true d = record { up = tt; top = omega arith }
-    by-test (pos n) false e false d = record { up = tt; top = ltb-false hi n d }
-    by-test (negsuc k) false e false d = never (sym e)
+    by-sign : (z : ℤ) → Within (pos lo) (pos hi) z → Between lo hi z
+    by-sign (pos n) w = record { up = tt; least = ltb-false n lo (w .low); most = ltb-false hi n (w .high) }
+    by-sign (negsuc k) w = never (sym (w .low))

@@ -1,12 +1,17 @@
 -- Lemmas that more than one crate cites.
 --     Bools     a Bool test and what it tells: never, ltZ-true, ltZ-false, eq-read, ne-read
 --     Signed    sizes of signed numbers, by which a value fits its width: abs≤, abs-fits, add≤, sub≤, mul≤, abs-quot, neg-fits,
---               sub-fits, mag-shr; signs: pos-sub, neg-sub, zero-sub; the rule set `signed` for goals under toZ and ofZ
---     Held      what heldTo gives: held-id, held-within, within-fits, held-nat
+--               sub-fits, sub-bounds, sub-size, mul-fits, modulo-bits, mag-shr, mag-add, mag-fits; signs: pos-sub, neg-sub, sub-neg,
+--               neg-mul, neg-quot, zero-sub, sub-flip; the rule set `signed` for goals under toZ and ofZ
+--     Held      what heldTo gives: held-id, held-within, within-fits, held-between
+--     Wrap      what wrap32 gives: wrap-id for what fits, wrap-low and wrap-high for a lap more or less
+--     Made      a value that is x, which is valid, is Made: made
 --     Finite    a rule over all numbers below a bound by one computed test: below, between, same-at, fits-at, i8
 --     F32       float tests as facts about numbers: or-le, nor-lt; cut quotients: cut-ge, cut-lt; literals: zero-is, one-is
 pub mod Bools
 pub mod Signed
 pub mod Held
+pub mod Wrap
+pub mod Made
 pub mod Finite
 pub mod F32

@@ -2,18 +2,19 @@
 -- Assumes nothing.
 use mathlib.Core.Path.{_≡_, refl, sym, ap, _∙_, subst}
 use Prim.Native.Nat.{ℕ, zero, suc, _+_, _-_, _*_, _/_, _^_, _≤_, _<_}
-use native.Mathlib.Nat.{zero-div, div-le-of-le-mul, div-lt-iff-lt-mul, mul-lt-mul-of-pos-left, le-add-right, mul-comm, le-refl, le-trans, lt-of-le-of-lt, lt-of-lt-of-le, le-of-eq, mul-le-mul-left, mul-le-mul-right}
+use native.Mathlib.Nat.{zero-div, zero-mul, mod-eq-of-lt, mul-le-mul, div-le-of-le-mul, div-lt-iff-lt-mul, mul-lt-mul-of-pos-left, le-add-right, mul-comm, le-refl, le-trans, lt-of-le-of-lt, lt-of-lt-of-le, le-of-eq, mul-le-mul-left, mul-le-mul-right}
 use native.Mathlib.Omega.{arith}
-use lib.IntN.{ℤ, pos, negsuc, negℤ, natAbs, subℕ, negℤ-+ℤ, +ℤ-idl, _+ℤ_, _-ℤ_, _*ℤ_}
+use lib.IntN.{ℤ, pos, negsuc, negℤ, natAbs, subℕ, negℤ-+ℤ, negℤ-negℤ, +ℤ-comm, +ℤ-idl, _+ℤ_, _-ℤ_, _*ℤ_}
 use lib.Signed.{mag, quotZ, shrZ, natAbs-le, ltZ, ltZ-yes, ltZ-no, _<ℤ_, _≤ℤ_}
 use lib.Dec.{T, ltb, leb, ltb→lt, leb→le}
 use mathlib.Core.Bool.{Bool, true, false, not, cond}
 use borrow.Author.Tests.{le-ltb, lt-ltb, ltb-true, ltb-false}
 use lib.Pow.{pow-pos}
-use mir.Syntax.{Width}
-use mir.Val.{SFits, hbits, toZ, ofZ}
+use mir.Syntax.{Width, w8}
+use mir.Val.{Fits, SFits, bits, hbits, toZ, ofZ}
 use mir.ValLaws.{toZ-pos, toZ-ofZ}
 use borrow.Author.Needs.{needs}
+use Rattle.laws.specs.Whole.{modulo}
 
 pub mag≤abs : (z : ℤ) → mag z ≤ natAbs z
 mag≤abs (pos n) = le-refl n
@@ -53,6 +54,10 @@ pos-sub a (suc b) h = ap (λ (t : Bool). cond t (negsuc (suc b - suc a)) (pos (a
 
 pub neg-sub : (a b : ℕ) → negℤ (pos a) -ℤ pos b ≡ negℤ (pos (a + b))
 neg-sub a b = sym (negℤ-+ℤ (pos a) (pos b))
+
+-- a difference taken the other way round
+pub sub-flip : (a b : ℤ) → negℤ (a -ℤ b) ≡ b -ℤ a
+sub-flip a b = rw (negℤ-+ℤ a (negℤ b), negℤ-negℤ b, +ℤ-comm (negℤ a) b)
 
 -- 0 - z, as the code writes -z
 pub zero-sub : (z : ℤ) → pos 0 -ℤ z ≡ negℤ z
@@ -116,7 +121,50 @@ sub-bounds {w} a b f = by-test (ltb a b) refl (f .sfits)
     by-test true e l = let s = ltb-true a b e in (omega arith, omega arith)
     by-test false e l = let s = ltb-false a b e in (omega arith, omega arith)
 
--- a negated number's quotient
-pub quot-neg : (n m : ℕ) → quotZ (negℤ (pos n)) (pos m) ≡ negℤ (pos (n / m))
-quot-neg zero m = rw (zero-div m)
-quot-neg (suc n) m = refl
+-- ---- a difference, a product and a quotient that are not above 0
+pub sub-neg : (a b : ℕ) → a ≤ b → pos a -ℤ pos b ≡ negℤ (pos (b - a))
+sub-neg a b h = sym (sub-flip (pos b) (pos a)) ∙ ap negℤ (pos-sub b a h)
+
+pub neg-mul : (a b : ℕ) → negℤ (pos a) *ℤ pos b ≡ negℤ (pos (a * b))
+neg-mul zero b = rw zero-mul
+neg-mul (suc a) b = refl
+
+pub neg-quot : (a n : ℕ) → quotZ (negℤ (pos a)) (pos n) ≡ negℤ (pos (a / n))
+neg-quot zero n = rw zero-div
+neg-quot (suc a) n = refl
+
+-- a product of two naturals fits, from bounds on both: `mul-fits h k tt`
+pub mul-fits : {w : Width} {a b m n : ℕ} → a ≤ m → b ≤ n → T (ltb (m * n) (2 ^ bits w)) → Fits w (a * b)
+mul-fits {w} {a} {b} {m} {n} h k t = record { fits = lt-of-le-of-lt (mul-le-mul h k) (ltb→lt (m * n) (2 ^ bits w) t) }
+
+-- a number of eight bits modulo 256 is its bits
+pub modulo-bits : (z : ℤ) → SFits w8 z → modulo z 256 ≡ ofZ w8 z
+modulo-bits (pos n) f = mod-eq-of-lt (omega arith)
+modulo-bits (negsuc n) f = let h : n < 256 = omega arith in rw (mod-eq-of-lt h)
+
+-- ---- bounds on mag, which is one tighter below 0
+pub mag-add : (a b : ℤ) (m n : ℕ) → natAbs a ≤ m → mag b ≤ n → mag (a +ℤ b) ≤ m + n
+mag-add (pos a) (pos b) m n h k = omega arith
+mag-add (pos a) (negsuc b) m n h k = by-test (ltb a (suc b)) refl
+  where
+    by-test : (t : Bool) → ltb a (suc b) ≡ t → mag (cond t (negsuc (suc b - suc a)) (pos (a - suc b))) ≤ m + n
+    by-test true e = omega (arith, ltb-true a (suc b) e)
+    by-test false e = omega (arith, ltb-false a (suc b) e)
+mag-add (negsuc a) (pos b) m n h k = by-test (ltb b (suc a)) refl
+  where
+    by-test : (t : Bool) → ltb b (suc a) ≡ t → mag (cond t (negsuc (suc a - suc b)) (pos (b - suc a))) ≤ m + n
+    by-test true e = omega (arith, ltb-true b (suc a) e)
+    by-test false e = omega (arith, ltb-false b (suc a) e)
+mag-add (negsuc a) (negsuc b) m n h k = omega arith
+
+-- z fits, from a bound on mag: `mag-fits h tt`
+pub mag-fits : {w : Width} {z : ℤ} (n : ℕ) → mag z ≤ n → T (ltb n (2 ^ hbits w)) → SFits w z
+mag-fits {w} {z} n h t = record { sfits = lt-of-le-of-lt h (ltb→lt n (2 ^ hbits w) t) }
+
+-- a difference of two naturals, from bounds both ways
+pub sub-size : (a b n : ℕ) → a ≤ b + n → b ≤ a + n → natAbs (subℕ a b) ≤ n
+sub-size a b n h k = by-test (ltb a b) refl
+  where
+    by-test : (t : Bool) → ltb a b ≡ t → natAbs (cond t (negsuc (b - suc a)) (pos (a - b))) ≤ n
+    by-test true e = omega (arith, ltb-true a b e)
+    by-test false e = omega (arith, ltb-false a b e)

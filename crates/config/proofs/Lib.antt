@@ -1,0 +1,2 @@
+-- Laws that callers of these functions cite, and what the proofs here share.
+pub mod Laws

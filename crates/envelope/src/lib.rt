@@ -1,0 +1,321 @@
+// The ADSR envelope in Q8: a part of every voice, and an envelope that is opened alone.
+ghost use mathlib.Core.Path.{_≡_};
+ghost use Prim.Native.Nat.{_<_, _≤_};
+ghost use Rattle.envelope.specs.Samples.{samplesOf};
+ghost use Rattle.envelope.specs.Adsrs.{Valid, Made, Counting, clickSpec, padSpec, idleAdsr, triggered, released, ticked, beganDecay, advancedToward, nextLevel, active};
+ghost use Rattle.envelope.specs.Alone.{ValidEnvelope, MadeEnvelope, OpenedAs, triggeredEnvelope, releasedEnvelope, tickedEnvelope};
+use error::AudioError;
+
+// Durations in milliseconds; 0 skips the phase.
+pub struct AdsrSpec {
+    pub attack_ms: u16,
+    pub decay_ms: u16,
+    pub sustain_q8: u8,
+    pub release_ms: u16,
+}
+
+impl AdsrSpec {
+    pub fn click() -> AdsrSpec
+        ensures { λ r. ⌜ r ≡ clickSpec ⌝ }
+    {
+        AdsrSpec {
+            attack_ms: 2,
+            decay_ms: 40,
+            sustain_q8: 0,
+            release_ms: 10,
+        }
+    }
+
+    pub fn pad() -> AdsrSpec
+        ensures { λ r. ⌜ r ≡ padSpec ⌝ }
+    {
+        AdsrSpec {
+            attack_ms: 5,
+            decay_ms: 80,
+            sustain_q8: 200,
+            release_ms: 120,
+        }
+    }
+}
+
+pub enum AdsrPhase {
+    Attack,
+    Decay,
+    Sustain,
+    Release,
+    Idle,
+}
+
+// Where an envelope stands: phase, level 0..255, and the count within the phase.
+pub struct Adsr {
+    pub spec: AdsrSpec,
+    pub phase: AdsrPhase,
+    pub level_q8: u8,
+    pub samples_in_phase: u32,
+    pub phase_length_samples: u32,
+    pub sample_rate_hz: u32,
+}
+
+// At a rate of at most 65,537 the product of 32 bits does not wrap.
+fn ms_to_samples(ms: u16, sample_rate_hz: u32) -> u32
+    requires { ⌜ «sample_rate_hz» ≤ 65537 ⌝ }
+    ensures { λ r. ⌜ r ≡ samplesOf ms «sample_rate_hz» ⌝ }
+{
+    (ms as u32) * sample_rate_hz / 1000
+}
+
+// The source's `min` and `clamp` never act here: the level goes from where it is towards the target and not past it.
+fn next_level(level: u8, target: u8, count: u32, length: u32) -> u8
+    requires { ⌜ (0 < length) × (count ≤ length) × (length ≤ 4294967) ⌝ }
+    ensures { λ r. ⌜ r ≡ nextLevel level target count length ⌝ }
+{
+    let start = level as i32;
+    let end = target as i32;
+    (start + (end - start) * (count as i32) / (length as i32)) as u8
+}
+
+impl Adsr {
+    pub fn new(spec: AdsrSpec, sample_rate_hz: u32) -> Adsr
+        ensures { λ r. ⌜ r ≡ idleAdsr spec «sample_rate_hz» ⌝ }
+    {
+        Adsr {
+            spec,
+            phase: AdsrPhase::Idle,
+            level_q8: 0,
+            samples_in_phase: 0,
+            phase_length_samples: 0,
+            sample_rate_hz,
+        }
+    }
+
+    pub fn sample_rate_hz(self) -> u32
+        ensures { λ r. ⌜ r ≡ self .«sample_rate_hz» ⌝ }
+    {
+        self.sample_rate_hz
+    }
+
+    pub fn level_q8(self) -> u8
+        ensures { λ r. ⌜ r ≡ self .«level_q8» ⌝ }
+    {
+        self.level_q8
+    }
+
+    pub fn is_active(self) -> bool
+        ensures { λ r. ⌜ r ≡ active self ⌝ }
+    {
+        let p = self.phase;
+        match p {
+            AdsrPhase::Attack => true,
+            AdsrPhase::Decay => true,
+            AdsrPhase::Sustain => true,
+            AdsrPhase::Release => true,
+            AdsrPhase::Idle => false,
+        }
+    }
+
+    pub fn trigger(self) -> Adsr
+        requires { ⌜ Valid self ⌝ }
+        ensures { λ r. ⌜ Made (triggered self) r ⌝ }
+    {
+        let s = self.spec;
+        let length = ms_to_samples(s.attack_ms, self.sample_rate_hz);
+        let a = Adsr {
+            phase: AdsrPhase::Attack,
+            level_q8: 0,
+            samples_in_phase: 0,
+            phase_length_samples: length,
+            ..self
+        };
+        if length == 0 { a.begin_decay() } else { a }
+    }
+
+    pub fn release(self) -> Adsr
+        requires { ⌜ Valid self ⌝ }
+        ensures { λ r. ⌜ Made (released self) r ⌝ }
+    {
+        if self.is_active() {
+            let s = self.spec;
+            let length = ms_to_samples(s.release_ms, self.sample_rate_hz);
+            if length == 0 {
+                Adsr {
+                    phase: AdsrPhase::Idle,
+                    level_q8: 0,
+                    samples_in_phase: 0,
+                    phase_length_samples: 0,
+                    ..self
+                }
+            } else {
+                Adsr {
+                    phase: AdsrPhase::Release,
+                    samples_in_phase: 0,
+                    phase_length_samples: length,
+                    ..self
+                }
+            }
+        } else {
+            self
+        }
+    }
+
+    pub fn tick(self) -> Adsr
+        requires { ⌜ Valid self ⌝ }
+        ensures { λ r. ⌜ Made (ticked self) r ⌝ }
+    {
+        let p = self.phase;
+        match p {
+            AdsrPhase::Attack => {
+                let a = self.advance_toward(255);
+                if a.samples_in_phase >= a.phase_length_samples {
+                    a.begin_decay()
+                } else {
+                    a
+                }
+            }
+            AdsrPhase::Decay => {
+                let s = self.spec;
+                let a = self.advance_toward(s.sustain_q8);
+                if a.samples_in_phase >= a.phase_length_samples {
+                    Adsr {
+                        phase: AdsrPhase::Sustain,
+                        level_q8: s.sustain_q8,
+                        samples_in_phase: 0,
+                        ..a
+                    }
+                } else {
+                    a
+                }
+            }
+            AdsrPhase::Release => {
+                let a = self.advance_toward(0);
+                if a.samples_in_phase >= a.phase_length_samples {
+                    Adsr {
+                        phase: AdsrPhase::Idle,
+                        level_q8: 0,
+                        ..a
+                    }
+                } else {
+                    a
+                }
+            }
+            AdsrPhase::Sustain => self,
+            AdsrPhase::Idle => self,
+        }
+    }
+
+    fn begin_decay(self) -> Adsr
+        requires { ⌜ self .«sample_rate_hz» ≤ 65537 ⌝ }
+        ensures { λ r. ⌜ r ≡ beganDecay self ⌝ }
+    {
+        let s = self.spec;
+        let length = ms_to_samples(s.decay_ms, self.sample_rate_hz);
+        if length == 0 {
+            Adsr {
+                phase: AdsrPhase::Sustain,
+                level_q8: s.sustain_q8,
+                samples_in_phase: 0,
+                phase_length_samples: 0,
+                ..self
+            }
+        } else {
+            Adsr {
+                phase: AdsrPhase::Decay,
+                samples_in_phase: 0,
+                phase_length_samples: length,
+                ..self
+            }
+        }
+    }
+
+    fn advance_toward(self, target: u8) -> Adsr
+        requires { ⌜ Counting (self .«samples_in_phase») (self .«phase_length_samples») ⌝ }
+        ensures { λ r. ⌜ r ≡ advancedToward target self ⌝ }
+    {
+        let count = self.samples_in_phase + 1;
+        let level = next_level(self.level_q8, target, count, self.phase_length_samples);
+        Adsr {
+            level_q8: level,
+            samples_in_phase: count,
+            ..self
+        }
+    }
+}
+
+// An envelope that is opened alone. Its field is private, so that each one comes from the calls below.
+pub struct Envelope {
+    adsr: Adsr,
+}
+
+pub enum Opened {
+    Envelope(Envelope),
+    Refused(AudioError),
+}
+
+impl Envelope {
+    pub fn open(spec: AdsrSpec, sample_rate_hz: u32) -> Opened
+        ensures { λ r. ⌜ OpenedAs spec «sample_rate_hz» r ⌝ }
+    {
+        if sample_rate_hz > 65537 {
+            Opened::Refused(AudioError::BadRate)
+        } else {
+            let adsr = Adsr::new(spec, sample_rate_hz);
+            Opened::Envelope(Envelope { adsr })
+        }
+    }
+
+    pub fn trigger(self) -> Envelope
+        requires { ⌜ ValidEnvelope self ⌝ }
+        ensures { λ r. ⌜ MadeEnvelope (triggeredEnvelope self) r ⌝ }
+    {
+        let a = self.adsr;
+        let adsr = a.trigger();
+        Envelope { adsr }
+    }
+
+    pub fn release(self) -> Envelope
+        requires { ⌜ ValidEnvelope self ⌝ }
+        ensures { λ r. ⌜ MadeEnvelope (releasedEnvelope self) r ⌝ }
+    {
+        let a = self.adsr;
+        let adsr = a.release();
+        Envelope { adsr }
+    }
+
+    pub fn tick(self) -> Envelope
+        requires { ⌜ ValidEnvelope self ⌝ }
+        ensures { λ r. ⌜ MadeEnvelope (tickedEnvelope self) r ⌝ }
+    {
+        let a = self.adsr;
+        let adsr = a.tick();
+        Envelope { adsr }
+    }
+
+    pub fn level(self) -> u8
+        ensures { λ r. ⌜ r ≡ self .adsr .«level_q8» ⌝ }
+    {
+        let a = self.adsr;
+        a.level_q8
+    }
+
+    pub fn active(self) -> bool
+        ensures { λ r. ⌜ r ≡ active (self .adsr) ⌝ }
+    {
+        let a = self.adsr;
+        a.is_active()
+    }
+
+    // The state, to be looked at.
+    pub fn state(self) -> Adsr
+        ensures { λ r. ⌜ r ≡ self .adsr ⌝ }
+    {
+        self.adsr
+    }
+}
+
+// The tick on an envelope that is lent for change.
+pub fn tick_in_place(e: &mut Envelope)
+    requires { ⌜ ValidEnvelope (now e) ⌝ }
+    ensures { λ _. ⌜ MadeEnvelope (tickedEnvelope (now (e .entry))) (now (e .exit)) ⌝ }
+{
+    let t = *e;
+    *e = t.tick();
+}

@@ -8,6 +8,7 @@ use hex::put_line;
 
 mod hex;
 mod leaves;
+mod outputs;
 
 // What is answered to a line: a number in so many digits, or that the line is bad.
 pub enum Reply {
@@ -40,15 +41,20 @@ fn reply_for(code: u8, l: &[u8]) -> Reply
     match code {
         0x40 => sized(n, 2, leaves::gain(l)),
         0x41 => sized(n, 3, leaves::lerp(l)),
+        0x42 => sized(n, 4, outputs::limiter(l)),
         0x43 => sized(n, 1, leaves::pan_gains(l)),
         0x44 => sized(n, 8, leaves::phase_increment(l)),
         0x45 => sized(n, 1, leaves::sine(l)),
+        0x46 => sized(n, 3, outputs::duty(l)),
+        0x47 => sized(n, 6, outputs::fade_step(l)),
         0x50 => sized(n, 4, leaves::decibels_to_gain(l)),
         0x51 => sized(n, 1, leaves::gain_to_decibels(l)),
         0x52 => sized(n, 4, leaves::phase(l)),
         0x53 => sized(n, 3, leaves::crossfade(l)),
         0x54 => sized(n, 4, leaves::clamp(l)),
         0x55 => sized(n, 1, leaves::kind(l)),
+        0x56 => sized(n, 1, outputs::conversions(l)),
+        0x59 => sized(n, 1, outputs::conversion_to_i32(l)),
         _ => Reply::Bad,
     }
 }

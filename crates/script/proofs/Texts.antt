@@ -6,13 +6,14 @@ use native.Mathlib.Nat.{lt-irrefl, add-zero, add-suc, suc-add, add-assoc}
 use native.Mathlib.Omega.{arith}
 use lib.ListN.{length, set, take, drop, length-append, length-set}
 use lib.Seq.{sets, sets-eq, set-comm}
-use mathlib.Core.Bool.{Bool, true, false, _&&_}
-use borrow.Author.Tests.{le-leb, lt-leb}
+use mathlib.Core.Bool.{Bool, true, false, cond, _&&_}
+use borrow.Author.Tests.{le-leb, lt-leb, leb-true}
 use lib.Dec.{leb}
 use Rattle.script.specs.declared.Reply.{Reply}
-use Rattle.script.specs.Replies.{replyOf}
+use Rattle.script.specs.declared.Reply.the-variants.{Bad, Duties}
+use Rattle.script.specs.Replies.{replyFor, replyOf}
 use Rattle.script.specs.Answers.{textOf, replyText, goesOn, Answers}
-use Rattle.script.specs.Hex.{between, digitChar, hexOf, Wrote}
+use Rattle.script.specs.Hex.{allDigits, byteAt, between, digitChar, hexOf, Wrote}
 
 -- where a byte lies
 pub inside : (lo hi c : ℕ) → lo ≤ c → c ≤ hi → between lo hi c ≡ true
@@ -53,6 +54,10 @@ module _ {A : Type 0} where
   sets-last l a [] v = rw add-zero
   sets-last l a (u ∷ x) v =
       rw (set-comm l (a + suc (length x)) a v u (λ e. omega arith), add-suc, ← suc-add) (sets-last (set l a u) (suc a) x v)
+
+-- the digits of an equal value
+pub shown : (d : ℕ) {u v at n : ℕ} {a b : List ℕ} → u ≡ v → Wrote a at (hexOf d u) b n → Wrote a at (hexOf d v) b n
+shown d e w = rw e at w
 
 -- two texts written one after the other are one
 pub then : {a b c : List ℕ} {at m n : ℕ} {x y : List ℕ} → Wrote a at x b m → Wrote b m y c n → Wrote a at (x ++ y) c n
@@ -97,3 +102,12 @@ front {before} {text} {after} {n} e w =
 pub done : {l before after : List ℕ} {r : Reply} {n : ℕ} → length before ≡ 262144 → replyOf l ≡ r → Wrote before 0 (textOf r l) after n → Answers l before after (record { len = n; more = goesOn r })
 unfolding replyText
 done h e w = let f = front h w in record { text = rw e (f .stands); len = rw e (f .count); more = rw e }
+
+-- a run over samples is of a line that is not too long
+pub short : (l : List ℕ) → replyOf l ≡ Duties → length l ≤ 8194
+unfolding replyOf
+short l e = by-test (leb (length l) 8194) refl e
+  where
+    by-test : (t : Bool) → leb (length l) 8194 ≡ t → cond (t && allDigits l) (replyFor (byteAt l 0) l) Bad ≡ Duties → length l ≤ 8194
+    by-test true h e = leb-true (length l) 8194 h
+    by-test false h e = let z : _≡_ {A = ℕ} 0 1 = cc in omega arith

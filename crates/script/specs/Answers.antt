@@ -6,14 +6,18 @@ use mathlib.Core.List.{List, _++_}
 use lib.ListN.{length, drop}
 use Rattle.script.specs.Hex.{hexOf, newline}
 use Rattle.script.specs.Replies.{replyOf}
+use Rattle.script.specs.Runs.{levelsText, stateText, dutiesText}
 use Rattle.script.specs.declared.Reply.{Reply}
-use Rattle.script.specs.declared.Reply.the-variants.{Bad, Word}
+use Rattle.script.specs.declared.Reply.the-variants.{Bad, Word, Levels, State, Duties}
 use Rattle.script.specs.declared.Answered.{Answered}
 
 -- a bad line "prints FFFF"
 abbrev pub textOf : Reply → List ℕ → List ℕ
 textOf Bad l = hexOf 4 0xFFFF ++ newline
 textOf (Word value digits) l = hexOf digits value ++ newline
+textOf Levels l = levelsText l
+textOf State l = stateText l
+textOf Duties l = dutiesText l
 
 unfoldable pub replyText : List ℕ → List ℕ
 replyText l = textOf (replyOf l) l
@@ -22,6 +26,9 @@ replyText l = textOf (replyOf l) l
 abbrev pub goesOn : Reply → Bool
 goesOn Bad = false
 goesOn (Word value digits) = true
+goesOn Levels = true
+goesOn State = true
+goesOn Duties = true
 
 -- the text stands before the rest of what the buffer held
 pub record Answers (l before after : List ℕ) (r : Answered) : Type 0 where

@@ -1,8 +1,8 @@
 -- The records of the replay format: for each its fields, from byte 1 on, and what it prints. Assumes nothing.
-use Prim.Native.Nat.{ℕ, _+_, _*_, _/_, _^_}
+use Prim.Native.Nat.{ℕ, _+_, _*_, _/_, _%_, _^_}
 use mathlib.Core.Bool.{cond, _&&_}
 use mathlib.Core.List.{List}
-use lib.Dec.{leb, eqb}
+use lib.Dec.{leb, ltb, eqb}
 use lib.ListN.{length}
 use lib.IntN.{ℤ, pos, negsuc, _*ℤ_}
 use lib.Ieee.{binary32, ofBits, toBits}
@@ -31,7 +31,7 @@ use Rattle.tier.specs.declared.KindRead.{KindRead}
 use Rattle.tier.specs.declared.KindRead.the-variants.{Kind, Unknown}
 use Rattle.script.specs.Hex.{allDigits, byteAt, wideAt, longAt}
 use Rattle.script.specs.declared.Reply.{Reply}
-use Rattle.script.specs.declared.Reply.the-variants.{Bad, Word}
+use Rattle.script.specs.declared.Reply.the-variants.{Bad, Word, Levels, State, Duties}
 
 -- fields with a sign, in two's complement
 abbrev pub sampleAt : List ℕ → ℕ → ℤ
@@ -134,6 +134,11 @@ conversion32Reply l = Word (ofZ w32 (sampleAt l 1 *ℤ pos 0x100_0000)) 8
 abbrev pub sized : ℕ → ℕ → Reply → Reply
 sized digits bytes r = cond (eqb digits (2 + 2 * bytes)) r Bad
 
+-- 57, duty mapper: mode (1), period (2), integrator (4), then any number of samples. "A mode above 2 makes the line bad."
+unfoldable pub dutiesReply : List ℕ → Reply
+dutiesReply l =
+    cond (ltb (length l) 16) Bad (cond (eqb (length l % 2) 1) Bad (cond (leb (byteAt l 1) 2) Duties Bad))
+
 -- the records by their code, each with its length; any other code is bad
 abbrev pub replyFor : ℕ → List ℕ → Reply
 replyFor code l =
@@ -146,6 +151,7 @@ replyFor code l =
     (cond (eqb code 0x45) (sized n 1 (sineReply l))
     (cond (eqb code 0x46) (sized n 3 (dutyReply l))
     (cond (eqb code 0x47) (sized n 6 (fadeReply l))
+    (cond (eqb code 0x48) (sized n 15 Levels)
     (cond (eqb code 0x50) (sized n 4 (toGainReply l))
     (cond (eqb code 0x51) (sized n 1 (toDecibelsReply l))
     (cond (eqb code 0x52) (sized n 4 (phaseReply l))
@@ -153,8 +159,10 @@ replyFor code l =
     (cond (eqb code 0x54) (sized n 4 (clampReply l))
     (cond (eqb code 0x55) (sized n 1 (kindReply l))
     (cond (eqb code 0x56) (sized n 1 (conversionsReply l))
+    (cond (eqb code 0x57) (dutiesReply l)
+    (cond (eqb code 0x58) (sized n 15 State)
     (cond (eqb code 0x59) (sized n 1 (conversion32Reply l))
-    Bad)))))))))))))))
+    Bad))))))))))))))))))
 
 -- "No good line is longer than 8,194 digits"; the first byte is the code
 unfoldable pub replyOf : List ℕ → Reply

@@ -110,7 +110,7 @@ fn digit_char(n: u8) -> u8
 // The low digits of the value from a place on, the last one first. It gives the place after them.
 pub fn put(out: &mut [u8; 262144], at: usize, value: u64, digits: u8) -> usize
     requires { ⌜ at + digits ≤ 262144 ⌝ }
-    ensures { λ r. ⌜ Wrote (now (out .entry)) at (hexOf digits value) (now (out .exit)) r ⌝ }
+    ensures { λ r. ⌜ Wrote (now (out .entry)) at (hexOf digits value) (now (out .exit)) r × (r ≡ at + digits) ⌝ }
 {
     let end = at + (digits as usize);
     let mut place = end;
@@ -133,7 +133,7 @@ pub fn end_line(out: &mut [u8; 262144], at: usize) -> usize
 
 // A first line: the value's digits and the line's end.
 pub fn put_line(out: &mut [u8; 262144], value: u64, digits: u8) -> usize
-    ensures { λ r. ⌜ Wrote (now (out .entry)) 0 (hexOf digits value ++ newline) (now (out .exit)) r ⌝ }
+    ensures { λ r. ⌜ Wrote (now (out .entry)) 0 (hexOf digits value ++ newline) (now (out .exit)) r × (r ≡ digits + 1) ⌝ }
 {
     let n = put(out, 0, value, digits);
     end_line(out, n)

@@ -1,6 +1,6 @@
 // Answers to a script's lines: records 40 to 48 of the replay format and our own 50 to 59.
 ghost use mathlib.Core.Path.{_≡_};
-ghost use Rattle.script.specs.Replies.{sized, replyFor, replyOf};
+ghost use Rattle.script.specs.Replies.{sized, dutiesReply, replyFor, replyOf};
 ghost use Rattle.script.specs.Answers.{Answers};
 use hex::all_digits;
 use hex::byte_at;
@@ -9,11 +9,15 @@ use hex::put_line;
 mod hex;
 mod leaves;
 mod outputs;
+mod runs;
 
-// What is answered to a line: a number in so many digits, or that the line is bad.
+// What is answered to a line: that it is bad, a number in so many digits, or one of the runs.
 pub enum Reply {
     Bad,
     Word { value: u64, digits: u8 },
+    Levels,
+    State,
+    Duties,
 }
 
 // How many bytes the answer has, and whether the run goes on.
@@ -33,6 +37,20 @@ fn sized(digits: usize, bytes: u8, r: Reply) -> Reply
     }
 }
 
+// 57 has any number of samples, and three modes.
+fn duties_reply(l: &[u8]) -> Reply
+    ensures { λ r. ⌜ r ≡ dutiesReply (now (l .entry)) ⌝ }
+{
+    let n = l.len();
+    if n < 16 {
+        return Reply::Bad;
+    }
+    if n % 2 == 1 {
+        return Reply::Bad;
+    }
+    if byte_at(l, 1) <= 2 { Reply::Duties } else { Reply::Bad }
+}
+
 // By the code. Each reader is total, so a record's length is looked at last.
 fn reply_for(code: u8, l: &[u8]) -> Reply
     ensures { λ r. ⌜ r ≡ replyFor code (now (l .entry)) ⌝ }
@@ -47,6 +65,7 @@ fn reply_for(code: u8, l: &[u8]) -> Reply
         0x45 => sized(n, 1, leaves::sine(l)),
         0x46 => sized(n, 3, outputs::duty(l)),
         0x47 => sized(n, 6, outputs::fade_step(l)),
+        0x48 => sized(n, 15, Reply::Levels),
         0x50 => sized(n, 4, leaves::decibels_to_gain(l)),
         0x51 => sized(n, 1, leaves::gain_to_decibels(l)),
         0x52 => sized(n, 4, leaves::phase(l)),
@@ -54,6 +73,8 @@ fn reply_for(code: u8, l: &[u8]) -> Reply
         0x54 => sized(n, 4, leaves::clamp(l)),
         0x55 => sized(n, 1, leaves::kind(l)),
         0x56 => sized(n, 1, outputs::conversions(l)),
+        0x57 => duties_reply(l),
+        0x58 => sized(n, 15, Reply::State),
         0x59 => sized(n, 1, outputs::conversion_to_i32(l)),
         _ => Reply::Bad,
     }
@@ -88,6 +109,18 @@ pub fn answer(line: &[u8], out: &mut [u8; 262144]) -> Answered
         }
         Reply::Word { value, digits } => {
             let len = put_line(out, value, digits);
+            Answered { len, more: true }
+        }
+        Reply::Levels => {
+            let len = runs::levels(line, out);
+            Answered { len, more: true }
+        }
+        Reply::State => {
+            let len = runs::state(line, out);
+            Answered { len, more: true }
+        }
+        Reply::Duties => {
+            let len = runs::duties(line, out);
             Answered { len, more: true }
         }
     }

@@ -26,7 +26,7 @@ loop-again c =
     (omega arith, omega arith, rw (c .digit-char .ensures) (put-turn (l .out) (c .before .before .before .args .at) (l .place) (l .rest) (c .before .loop-test .taken) ∙ l .inv .2))
 
 returns : tie.Need-returns Inv-loop μ-loop
-returns c = put-end _ _ _ (c .before .loop .place) _ _ (c .before .loop .rest) (c .before .before .pre) (c .loop-test .left) (c .before .loop .inv .2)
+returns c = (put-end _ _ _ (c .before .loop .place) _ _ (c .before .loop .rest) (c .before .before .pre) (c .loop-test .left) (c .before .loop .inv .2), refl)
 
 pub put-spec : {M : Type 1} → statement M
 put-spec =

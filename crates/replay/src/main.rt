@@ -35,10 +35,7 @@ fn keep(s: State, out: &[u8], n: usize, kept: &mut [u8; 65536]) -> State {
     let at = s.held;
     if n <= out.len() && n <= 65536 && at <= 65536 - n {
         copy(kept, at, &out[..n]);
-        return State {
-            held: at + n,
-            ..s
-        };
+        return State { held: at + n, ..s };
     }
     let is_written = write_front(&*kept, at) && write_front(out, n);
     State {
@@ -48,7 +45,13 @@ fn keep(s: State, out: &[u8], n: usize, kept: &mut [u8; 65536]) -> State {
     }
 }
 
-fn answered(s: State, line: &[u8], n: usize, out: &mut [u8; 262144], kept: &mut [u8; 65536]) -> State {
+fn answered(
+    s: State,
+    line: &[u8],
+    n: usize,
+    out: &mut [u8; 262144],
+    kept: &mut [u8; 65536],
+) -> State {
     if n > line.len() {
         return State { more: false, ..s };
     }
@@ -62,7 +65,13 @@ fn answered(s: State, line: &[u8], n: usize, out: &mut [u8; 262144], kept: &mut 
 }
 
 // A byte of input. A line of 8,195 bytes is bad wherever it ends, so it is answered at once.
-fn step(s: State, b: u8, line: &mut [u8; 8195], out: &mut [u8; 262144], kept: &mut [u8; 65536]) -> State {
+fn step(
+    s: State,
+    b: u8,
+    line: &mut [u8; 8195],
+    out: &mut [u8; 262144],
+    kept: &mut [u8; 65536],
+) -> State {
     let n = s.line;
     if b == 10 {
         return answered(s, &*line, n, out, kept);
@@ -77,7 +86,13 @@ fn step(s: State, b: u8, line: &mut [u8; 8195], out: &mut [u8; 262144], kept: &m
     State { line: n + 1, ..s }
 }
 
-fn feed(s: State, chunk: &[u8], line: &mut [u8; 8195], out: &mut [u8; 262144], kept: &mut [u8; 65536]) -> State {
+fn feed(
+    s: State,
+    chunk: &[u8],
+    line: &mut [u8; 8195],
+    out: &mut [u8; 262144],
+    kept: &mut [u8; 65536],
+) -> State {
     let mut t = s;
     let mut i = 0;
     while i < chunk.len() && t.more {
@@ -88,7 +103,12 @@ fn feed(s: State, chunk: &[u8], line: &mut [u8; 8195], out: &mut [u8; 262144], k
 }
 
 // Reads once and answers the lines that ended. At the end of the input a last line may lack its newline.
-fn read_some(s: State, line: &mut [u8; 8195], out: &mut [u8; 262144], kept: &mut [u8; 65536]) -> State {
+fn read_some(
+    s: State,
+    line: &mut [u8; 8195],
+    out: &mut [u8; 262144],
+    kept: &mut [u8; 65536],
+) -> State {
     let mut chunk = io::large_buffer();
     let got = libc::read(STDIN_FILENO, &mut chunk);
     if got > 0 {

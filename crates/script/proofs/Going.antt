@@ -6,9 +6,9 @@ use native.Mathlib.Nat.{lt-irrefl, add-zero, mul-zero, mul-suc}
 use native.Mathlib.Omega.{arith}
 use lib.ListN.{length, length-append}
 use lib.Seq.{sets}
+use Rattle.laws.proofs.Lists.{sets-append}
 use Rattle.script.specs.Hex.{Wrote}
 use Rattle.script.specs.Runs.{stepped, texts}
-use Rattle.script.proofs.Texts.{sets-append}
 
 module _ {S : Type 0} (step : S → S) where
   -- the first step by itself, or none

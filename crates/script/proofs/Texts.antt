@@ -2,10 +2,11 @@
 use mathlib.Core.Path.{_≡_, refl, sym, ap, _∙_}
 use mathlib.Core.List.{List, [], _∷_, _++_, append-assoc}
 use Prim.Native.Nat.{ℕ, zero, suc, _+_, _-_, _*_, _/_, _%_, _≤_, _<_}
-use native.Mathlib.Nat.{lt-irrefl, add-zero, add-suc, suc-add, add-assoc}
+use native.Mathlib.Nat.{lt-irrefl, add-assoc}
 use native.Mathlib.Omega.{arith}
 use lib.ListN.{length, set, take, drop, length-append, length-set}
-use lib.Seq.{sets, sets-eq, set-comm}
+use lib.Seq.{sets, sets-eq}
+use Rattle.laws.proofs.Lists.{sets-append, sets-last}
 use mathlib.Core.Bool.{Bool, true, false, cond, _&&_}
 use borrow.Author.Tests.{le-leb, lt-leb, leb-true}
 use lib.Dec.{leb}
@@ -42,18 +43,6 @@ pub hexOf-last : (d n : ℕ) → 0 < d → hexOf d n ≡ hexOf (d - 1) (n / 16) 
 unfolding hexOf
 hexOf-last zero n h = absurd (lt-irrefl 0 h)
 hexOf-last (suc d) n h = let e : suc d - 1 ≡ d = omega arith in rw e
-
-module _ {A : Type 0} where
-  -- one run after another
-  pub sets-append : (l : List A) (a : ℕ) (x y : List A) → sets (sets l a x) (a + length x) y ≡ sets l a (x ++ y)
-  sets-append l a [] y = rw add-zero
-  sets-append l a (v ∷ x) y = rw (add-suc, ← suc-add) (sets-append (set l a v) (suc a) x y)
-
-  -- an element stored before the run that it follows
-  pub sets-last : (l : List A) (a : ℕ) (x : List A) (v : A) → sets (set l (a + length x) v) a x ≡ sets l a (x ++ (v ∷ []))
-  sets-last l a [] v = rw add-zero
-  sets-last l a (u ∷ x) v =
-      rw (set-comm l (a + suc (length x)) a v u (λ e. omega arith), add-suc, ← suc-add) (sets-last (set l a u) (suc a) x v)
 
 -- the digits of an equal value
 pub shown : (d : ℕ) {u v at n : ℕ} {a b : List ℕ} → u ≡ v → Wrote a at (hexOf d u) b n → Wrote a at (hexOf d v) b n

@@ -73,31 +73,51 @@ pub fn long_at(l: &[u8], k: usize) -> u32
 pub fn signed8(n: u8) -> i8
     ensures { λ r. ⌜ r ≡ toZ w8 n ⌝ }
 {
-    if n < 128 { n as i8 } else { -1 - ((255 - n) as i8) }
+    if n < 128 {
+        n as i8
+    } else {
+        -1 - ((255 - n) as i8)
+    }
 }
 
 pub fn signed32(n: u32) -> i32
     ensures { λ r. ⌜ r ≡ toZ w32 n ⌝ }
 {
-    if n < 0x8000_0000 { n as i32 } else { -1 - ((0xffff_ffff - n) as i32) }
+    if n < 0x8000_0000 {
+        n as i32
+    } else {
+        -1 - ((0xffff_ffff - n) as i32)
+    }
 }
 
 pub fn unsigned8(z: i8) -> u8
     ensures { λ r. ⌜ r ≡ ofZ w8 z ⌝ }
 {
-    if z < 0 { 255 - ((-1 - z) as u8) } else { z as u8 }
+    if z < 0 {
+        255 - ((-1 - z) as u8)
+    } else {
+        z as u8
+    }
 }
 
 pub fn unsigned16(z: i16) -> u16
     ensures { λ r. ⌜ r ≡ ofZ w16 z ⌝ }
 {
-    if z < 0 { 65535 - ((-1 - z) as u16) } else { z as u16 }
+    if z < 0 {
+        65535 - ((-1 - z) as u16)
+    } else {
+        z as u16
+    }
 }
 
 pub fn unsigned32(z: i32) -> u32
     ensures { λ r. ⌜ r ≡ ofZ w32 z ⌝ }
 {
-    if z < 0 { 0xffff_ffff - ((-1 - z) as u32) } else { z as u32 }
+    if z < 0 {
+        0xffff_ffff - ((-1 - z) as u32)
+    } else {
+        z as u32
+    }
 }
 
 fn digit_char(n: u8) -> u8

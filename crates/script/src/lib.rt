@@ -48,7 +48,11 @@ fn duties_reply(l: &[u8]) -> Reply
     if n % 2 == 1 {
         return Reply::Bad;
     }
-    if byte_at(l, 1) <= 2 { Reply::Duties } else { Reply::Bad }
+    if byte_at(l, 1) <= 2 {
+        Reply::Duties
+    } else {
+        Reply::Bad
+    }
 }
 
 // By the code. Each reader is total, so a record's length is looked at last.

@@ -193,7 +193,13 @@ fn mapper_at(l: &[u8]) -> PwmMapper
 }
 
 // The samples from byte 8 on, each with its duty.
-fn map_all(out: &mut [u8; 262144], l: &[u8], period: Period, first: Mapped, count: usize) -> MappedTo
+fn map_all(
+    out: &mut [u8; 262144],
+    l: &[u8],
+    period: Period,
+    first: Mapped,
+    count: usize,
+) -> MappedTo
     requires { ⌜ ValidPeriod period × ValidMapped first × (count ≤ 4096) ⌝ }
     ensures { λ r. ⌜ Wrote (now (out .entry)) 3 (texts (mapStep (now (l .entry)) (period .counts)) dutyText count (8, first)) (now (out .exit)) (r .next) ⌝ }
     ensures { λ r. ⌜ r .next ≡ 3 + 4 * count ⌝ }

@@ -1,10 +1,10 @@
 -- Runs of digits laid over a buffer. Assumes nothing.
-use mathlib.Core.Path.{_≡_, refl, sym, ap, _∙_}
-use mathlib.Core.List.{List, [], _∷_, _++_, append-assoc}
-use Prim.Native.Nat.{ℕ, zero, suc, _+_, _-_, _*_, _/_, _%_, _≤_, _<_}
+use mathlib.Core.Path.{_≡_, refl, _∙_}
+use mathlib.Core.List.{List, [], _∷_, _++_}
+use Prim.Native.Nat.{ℕ, zero, suc, _+_, _-_, _/_, _%_, _≤_, _<_}
 use native.Mathlib.Nat.{lt-irrefl, add-assoc}
 use native.Mathlib.Omega.{arith}
-use lib.ListN.{length, set, take, drop, length-append, length-set}
+use lib.ListN.{length, set, drop, length-append}
 use lib.Seq.{sets, sets-eq}
 use Rattle.laws.proofs.Lists.{sets-append, sets-last}
 use mathlib.Core.Bool.{Bool, true, false, cond, _&&_}

@@ -3,7 +3,6 @@ use Prim.Native.Nat.{ℕ, zero, suc, _+_, _-_, _/_}
 use mathlib.Core.Bool.{cond}
 use mathlib.Core.List.{List, [], _++_}
 use lib.Dec.{eqb}
-use lib.IntN.{ℤ, pos}
 use lib.ListN.{length}
 use mir.Syntax.{w32}
 use mir.Val.{ofZ}

@@ -8,7 +8,7 @@ ghost use Rattle.output.specs.declared.PeriodRead.the-variants as P;
 ghost use Rattle.output.specs.Duty.{ValidPeriod, ValidMapper, ValidMapped};
 ghost use Rattle.laws.specs.Made.{Made};
 ghost use Rattle.script.specs.Hex.{wideAt, longAt, Wrote};
-ghost use Rattle.script.specs.Runs.{stepped, texts, specAt, levelText, letGo, levelsOf, levelsText, phaseNumber, timesText, stateLine, stateOf, stateText, modeOf, mapperAt, mapStep, dutyText, mapperLine, dutiesOf, dutiesText};
+ghost use Rattle.script.specs.Runs.{stepped, texts, specAt, levelText, levelsOf, levelsText, phaseNumber, timesText, stateLine, stateOf, stateText, modeOf, mapperAt, mapStep, dutyText, mapperLine, dutiesOf, dutiesText};
 use crate::hex::byte_at;
 use crate::hex::end_line;
 use crate::hex::long_at;

@@ -1,12 +1,10 @@
 -- `script::hex::put` meets its contract: what is left to write of the rest is what there was to write. The measure is the digits left.
-use borrow.Author.Needs.{needs}
-use mathlib.Core.Path.{_≡_, refl, sym, _∙_}
-use Prim.Native.Nat.{ℕ, _+_, _-_, _/_, _%_, _≤_, _<_}
+use mathlib.Core.Path.{_≡_, refl, _∙_}
+use Prim.Native.Nat.{_-_, _≤_}
 use native.Mathlib.Omega.{arith}
-use lib.ListN.{set}
 use lib.Seq.{sets}
-use Rattle.script.specs.Hex.{digitChar, hexOf}
-use Rattle.script.proofs.Texts.{length-hexOf, put-start, put-turn, put-end}
+use Rattle.script.specs.Hex.{hexOf}
+use Rattle.script.proofs.Texts.{put-start, put-turn, put-end}
 use Rattle.script.proofs.hex.put.Statement.{statement}
 use Rattle.script.proofs.hex.put.Tie as tie
 

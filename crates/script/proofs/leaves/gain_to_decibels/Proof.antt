@@ -5,7 +5,7 @@ use mathlib.Core.Bool.{not}
 use Prim.Native.Nat.{ℕ, _<_}
 use native.Mathlib.Omega.{arith}
 use lib.Dec.{T}
-use lib.Ieee.{Float, binary32, toBits, div, mul, add, sub, neg, lt, ofInt, ofBits, round, isNan}
+use lib.Ieee.{binary32, toBits, div, mul, add, sub, neg, lt, ofInt, ofBits, round, isNan}
 use lib.Ieee.Bits.{toBits-lt}
 use Rattle.laws.specs.F32.{heldToF}
 use Rattle.laws.proofs.Finite.{below}

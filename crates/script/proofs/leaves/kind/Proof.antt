@@ -1,6 +1,6 @@
 -- `script::leaves::kind` meets its contract: each variant is the definition's.
 use borrow.Author.Needs.{needs}
-use mathlib.Core.Path.{_≡_, refl, sym, ap, _∙_}
+use mathlib.Core.Path.{_≡_, sym, ap, _∙_}
 use mathlib.Core.List.{List}
 use Prim.Native.Nat.{ℕ}
 use Rattle.tier.specs.Kinds.{kindOf}

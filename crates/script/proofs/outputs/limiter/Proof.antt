@@ -1,12 +1,8 @@
 -- `script::outputs::limiter` meets its contract: each variant is the definition's.
 use borrow.Author.Needs.{needs}
 use mathlib.Core.Path.{_≡_, sym, _∙_}
-use mathlib.Core.List.{List}
-use Prim.Native.Nat.{ℕ}
 use mir.Syntax.{w8, w32}
-use Rattle.output.specs.Levels.{limitedBus}
-use Rattle.output.specs.declared.Limited.{Limited}
-use Rattle.script.specs.Replies.{sumAt, limiterReply, limitedAnswer}
+use Rattle.script.specs.Replies.{limiterReply, limitedAnswer}
 use Rattle.script.proofs.Bits.{back}
 use Rattle.script.proofs.outputs.limiter.Statement.{statement}
 use Rattle.script.proofs.outputs.limiter.Tie as tie

@@ -1,6 +1,6 @@
 -- `script::runs::map_all` meets its contract: what is left of the run, from each turn on, is the run. The measure is the samples left.
 use mathlib.Core.Path.{_≡_, refl, sym, ap, _∙_}
-use Prim.Native.Nat.{ℕ, _+_, _*_, _≤_}
+use Prim.Native.Nat.{ℕ, _+_, _*_}
 use native.Mathlib.Omega.{arith}
 use mir.Syntax.{w8}
 use Rattle.output.specs.Duty.{ValidMapped, mapped}

@@ -1,6 +1,6 @@
 -- `script::runs::ticks` meets its contract: what is left of the run, from each turn on, is the run. The measure is the ticks left.
 use mathlib.Core.Path.{_≡_, refl, sym, _∙_}
-use Prim.Native.Nat.{_+_, _*_, _≤_}
+use Prim.Native.Nat.{_+_, _*_}
 use native.Mathlib.Omega.{arith}
 use Rattle.envelope.specs.Alone.{ValidEnvelope, tickedEnvelope}
 use Rattle.script.specs.Runs.{levelText}

@@ -1,0 +1,19 @@
+-- `script::runs::run_duties` meets its contract: three texts, one after the other.
+use borrow.Author.Needs.{needs}
+use mathlib.Core.Path.{sym}
+use Rattle.script.proofs.Texts.{then}
+use Rattle.script.proofs.runs.run_duties.Statement.{statement}
+use Rattle.script.proofs.runs.run_duties.Tie as tie
+
+returns : tie.Need-returns
+returns c =
+    let m = c .before .before .before .before in
+    let a = m .before .before in
+    let p = a .before .put-line .ensures in
+    rw (sym (a .mapper-at .ensures .same), sym (m .map-all .ensures .1 .1 .same))
+    (then (then (rw (p .1) at (p .0)) (m .map-all .ensures .0)) (c .put-mapper .ensures))
+
+pub run-duties-spec : {M : Type 1} → statement M
+run-duties-spec =
+    tie.close
+    (tie.spec (λ c κs. search needs) (λ c κs. search needs) (λ c κs. search needs) (λ c κs. search needs) returns)

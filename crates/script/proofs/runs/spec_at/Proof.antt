@@ -1,0 +1,12 @@
+-- `script::runs::spec_at` meets its contract, by what its callees ensure.
+use borrow.Author.Needs.{needs}
+use Rattle.script.proofs.runs.spec_at.Statement.{statement}
+use Rattle.script.proofs.runs.spec_at.Tie as tie
+
+returns : tie.Need-returns
+returns c = cc
+
+pub spec-at-spec : {M : Type 1} → statement M
+spec-at-spec =
+    tie.close
+    (tie.spec (λ c κs. search needs) (λ c κs. search needs) (λ c κs. search needs) (λ c κs. search needs) returns)

@@ -1,0 +1,50 @@
+-- Hexadecimal as the replay format writes it: digits 0–9 and A–F, two to a byte, fields big-endian. Assumes nothing.
+use mathlib.Core.Path.{_≡_}
+use Prim.Native.Nat.{ℕ, zero, suc, _+_, _-_, _*_, _/_, _%_, _≤_}
+use mathlib.Core.Bool.{Bool, true, cond, _&&_, _||_}
+use mathlib.Core.List.{List, [], _∷_, _++_}
+use lib.Dec.{leb, ltb}
+use lib.ListN.{length, getD}
+use lib.Seq.{sets}
+
+unfoldable pub between : ℕ → ℕ → ℕ → Bool
+between lo hi c = leb lo c && leb c hi
+
+-- '0'..'9' and 'A'..'F'
+abbrev pub isDigit : ℕ → Bool
+isDigit c = between 48 57 c || between 65 70 c
+
+unfoldable pub allDigits : List ℕ → Bool
+allDigits [] = true
+allDigits (c ∷ l) = isDigit c && allDigits l
+
+-- a digit's value; 0 for what is none
+unfoldable pub digitOf : ℕ → ℕ
+digitOf c = cond (between 48 57 c) (c - 48) (cond (between 65 70 c) (c - 55) 0)
+
+-- the fields of a line of digits: one byte, two and four, from byte k on; past the end every digit is 0
+abbrev pub byteAt : List ℕ → ℕ → ℕ
+byteAt l k = 16 * digitOf (getD l (2 * k) 0) + digitOf (getD l (2 * k + 1) 0)
+
+abbrev pub wideAt : List ℕ → ℕ → ℕ
+wideAt l k = 256 * byteAt l k + byteAt l (k + 1)
+
+abbrev pub longAt : List ℕ → ℕ → ℕ
+longAt l k = 65536 * wideAt l k + wideAt l (k + 2)
+
+abbrev pub digitChar : ℕ → ℕ
+digitChar n = cond (ltb n 10) (48 + n) (55 + n)
+
+-- the low d digits of n
+unfoldable pub hexOf : ℕ → ℕ → List ℕ
+hexOf zero n = []
+hexOf (suc d) n = hexOf d (n / 16) ++ (digitChar (n % 16) ∷ [])
+
+abbrev pub newline : List ℕ
+newline = 10 ∷ []
+
+-- the text was laid over what stood from a place on; next is the place after it
+pub record Wrote (before : List ℕ) (at : ℕ) (text after : List ℕ) (next : ℕ) : Type 0 where
+  pub laid : after ≡ sets before at text
+  pub place : next ≡ at + length text
+  pub room : next ≤ 262144

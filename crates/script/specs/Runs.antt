@@ -1,0 +1,137 @@
+-- The records of many answers: an envelope's levels (48) and state (58), a mapper's duties (57). Assumes nothing.
+use Prim.Native.Nat.{ℕ, zero, suc, _+_, _-_, _/_}
+use mathlib.Core.Bool.{cond}
+use mathlib.Core.List.{List, [], _++_}
+use lib.Dec.{eqb}
+use lib.ListN.{length}
+use mir.Syntax.{w32}
+use mir.Val.{ofZ}
+use Rattle.error.specs.Numbers.{numberOf}
+use Rattle.envelope.specs.Alone.{opened, triggeredEnvelope, releasedEnvelope, tickedEnvelope}
+use Rattle.envelope.specs.declared.AdsrSpec.{AdsrSpec}
+use Rattle.envelope.specs.declared.Adsr.{Adsr}
+use Rattle.envelope.specs.declared.AdsrPhase.{AdsrPhase}
+use Rattle.envelope.specs.declared.AdsrPhase.the-variants as A
+use Rattle.envelope.specs.declared.Envelope.{Envelope}
+use Rattle.envelope.specs.declared.Opened.{Opened}
+use Rattle.envelope.specs.declared.Opened.the-variants as O
+use Rattle.output.specs.Shapers.{fresh2ndOrder}
+use Rattle.output.specs.Duty.{periodRead, mapped}
+use Rattle.output.specs.declared.DutyMode.{DutyMode}
+use Rattle.output.specs.declared.DutyMode.the-variants as M
+use Rattle.output.specs.declared.Mapped.{Mapped}
+use Rattle.output.specs.declared.PeriodRead.{PeriodRead}
+use Rattle.output.specs.declared.PeriodRead.the-variants as P
+use Rattle.output.specs.declared.PwmMapper.{PwmMapper}
+use Rattle.script.specs.Hex.{byteAt, wideAt, longAt, hexOf, newline}
+use Rattle.script.specs.Replies.{sampleAt, sumAt}
+
+-- what n steps make of s
+unfoldable pub stepped : {S : Type 0} → (S → S) → ℕ → S → S
+stepped step zero s = s
+stepped step (suc n) s = stepped step n (step s)
+
+-- the texts after the first step, the second, .. the n-th, one after the other
+unfoldable pub texts : {S : Type 0} → (S → S) → (S → List ℕ) → ℕ → S → List ℕ
+texts step text zero s = []
+texts step text (suc n) s = text (step s) ++ texts step text n (step s)
+
+-- a line of a number
+abbrev pub numberLine : ℕ → List ℕ
+numberLine n = hexOf 2 n ++ newline
+
+-- "E": attack ms (2), decay ms (2), sustain (1), release ms (2); then the rate (4)
+abbrev pub specAt : List ℕ → AdsrSpec
+specAt l =
+    record { «attack_ms» = wideAt l 1; «decay_ms» = wideAt l 3; «sustain_q8» = byteAt l 5; «release_ms» = wideAt l 6 }
+
+abbrev pub openedAt : List ℕ → Opened
+openedAt l = opened (specAt l) (longAt l 8)
+
+abbrev pub levelText : Envelope → List ℕ
+levelText e = hexOf 2 (e .adsr .«level_q8»)
+
+-- the envelope e triggered and ticked so often, and then released
+abbrev pub letGo : ℕ → Envelope → Envelope
+letGo held e = releasedEnvelope (stepped tickedEnvelope held (triggeredEnvelope e))
+
+-- 48, envelope alone: "ticks before release (2), ticks after (2) | number; if 00, a second line with the levels after each
+-- tick, 2 digits each, .. the release standing between"
+abbrev pub levelsOf : ℕ → ℕ → Opened → List ℕ
+levelsOf held left (O.Refused e) = numberLine (numberOf e)
+levelsOf held left (O.Envelope e) =
+    numberLine 0 ++ texts tickedEnvelope levelText held (triggeredEnvelope e) ++ texts tickedEnvelope levelText left (letGo held e) ++ newline
+
+unfoldable pub levelsText : List ℕ → List ℕ
+levelsText l = levelsOf (wideAt l 12) (wideAt l 14) (openedAt l)
+
+-- "phase (0 attack, 1 decay, 2 sustain, 3 release, 4 idle)"
+abbrev pub phaseNumber : AdsrPhase → ℕ
+phaseNumber A.Attack = 0
+phaseNumber A.Decay = 1
+phaseNumber A.Sustain = 2
+phaseNumber A.Release = 3
+phaseNumber A.Idle = 4
+
+-- "attack, decay, sustain, release, phase, level, samples in phase, phase length, rate", 16 digits each
+abbrev pub timesText : AdsrSpec → List ℕ
+timesText s = hexOf 16 (s .«attack_ms») ++ hexOf 16 (s .«decay_ms») ++ hexOf 16 (s .«sustain_q8») ++ hexOf 16 (s .«release_ms»)
+
+abbrev pub stateLine : Adsr → List ℕ
+stateLine a =
+    timesText (a .spec)
+    ++ hexOf 16 (phaseNumber (a .phase))
+    ++ hexOf 16 (a .«level_q8»)
+    ++ hexOf 16 (a .«samples_in_phase»)
+    ++ hexOf 16 (a .«phase_length_samples»)
+    ++ hexOf 16 (a .«sample_rate_hz»)
+    ++ newline
+
+-- 58, envelope state: "number; if 00, a second line: the state after trigger, the ticks, release and the ticks after"
+abbrev pub stateOf : ℕ → ℕ → Opened → List ℕ
+stateOf held left (O.Refused e) = numberLine (numberOf e)
+stateOf held left (O.Envelope e) = numberLine 0 ++ stateLine (stepped tickedEnvelope left (letGo held e) .adsr)
+
+unfoldable pub stateText : List ℕ → List ℕ
+stateText l = stateOf (wideAt l 12) (wideAt l 14) (openedAt l)
+
+-- "0 Linear, 1 SigmaDelta, 2 SigmaDelta2ndOrder"
+abbrev pub modeOf : ℕ → DutyMode
+modeOf n = cond (eqb n 0) M.Linear (cond (eqb n 1) M.SigmaDelta M.SigmaDelta2ndOrder)
+
+-- "a fresh mapper of that mode whose first-order sum is the one given"
+abbrev pub mapperAt : List ℕ → PwmMapper
+mapperAt l =
+    record {
+      mode = modeOf (byteAt l 1);
+      «sigma_delta» = record { integrator = sumAt l 4 };
+      «sigma_delta_2nd» = fresh2ndOrder;
+    }
+
+-- a place in the line and what the sample before it was mapped to; the next sample is at the place
+abbrev pub mapStep : List ℕ → ℕ → ℕ × Mapped → ℕ × Mapped
+mapStep l period s = (s .0 + 1, mapped (s .1 .mapper) (sampleAt l (s .0)) period)
+
+abbrev pub dutyText : ℕ × Mapped → List ℕ
+dutyText s = hexOf 4 (s .1 .duty)
+
+abbrev pub firstAt : List ℕ → ℕ × Mapped
+firstAt l = (8, record { mapper = mapperAt l; duty = 0 })
+
+-- "integrator, e1, e2 (8 digits each)"
+abbrev pub mapperLine : PwmMapper → List ℕ
+mapperLine m =
+    hexOf 8 (ofZ w32 (m .«sigma_delta» .integrator))
+    ++ hexOf 8 (ofZ w32 (m .«sigma_delta_2nd» .e1))
+    ++ hexOf 8 (ofZ w32 (m .«sigma_delta_2nd» .e2))
+    ++ newline
+
+-- 57, duty mapper: "number (period below 2 is 3); if 00, a second line: each sample's duty (4 digits), then .."
+abbrev pub dutiesOf : List ℕ → ℕ → PeriodRead → List ℕ
+dutiesOf l n (P.Refused e) = numberLine (numberOf e)
+dutiesOf l n (P.Accepted p) =
+    let step = mapStep l (p .counts) in
+    numberLine 0 ++ texts step dutyText n (firstAt l) ++ mapperLine (stepped step n (firstAt l) .1 .mapper)
+
+unfoldable pub dutiesText : List ℕ → List ℕ
+dutiesText l = dutiesOf l (length l / 2 - 8) (periodRead (wideAt l 2))

@@ -3,7 +3,7 @@ ghost use mathlib.Core.Path.{_≡_};
 ghost use Prim.Native.Nat.{_<_, _≤_};
 ghost use Rattle.laws.specs.Made.{Made};
 ghost use Rattle.envelope.specs.Samples.{samplesOf};
-ghost use Rattle.envelope.specs.Adsrs.{Valid, Counting, clickSpec, padSpec, idleAdsr, triggered, released, ticked, beganDecay, advancedToward, nextLevel, active};
+ghost use Rattle.envelope.specs.Adsrs.{Valid, Counting, clickSpec, padSpec, idleAdsr, triggered, released, ticked, beganDecay, sustained, ended, advancedToward, nextLevel, active};
 ghost use Rattle.envelope.specs.Alone.{ValidEnvelope, OpenedAs, triggeredEnvelope, releasedEnvelope, tickedEnvelope};
 use error::AudioError;
 
@@ -176,12 +176,7 @@ impl Adsr {
                 let s = self.spec;
                 let a = self.advance_toward(s.sustain_q8);
                 if a.samples_in_phase >= a.phase_length_samples {
-                    Adsr {
-                        phase: AdsrPhase::Sustain,
-                        level_q8: s.sustain_q8,
-                        samples_in_phase: 0,
-                        ..a
-                    }
+                    a.end_decay()
                 } else {
                     a
                 }
@@ -189,11 +184,7 @@ impl Adsr {
             AdsrPhase::Release => {
                 let a = self.advance_toward(0);
                 if a.samples_in_phase >= a.phase_length_samples {
-                    Adsr {
-                        phase: AdsrPhase::Idle,
-                        level_q8: 0,
-                        ..a
-                    }
+                    a.end_release()
                 } else {
                     a
                 }
@@ -224,6 +215,28 @@ impl Adsr {
                 phase_length_samples: length,
                 ..self
             }
+        }
+    }
+
+    fn end_decay(self) -> Adsr
+        ensures { λ r. ⌜ r ≡ sustained self ⌝ }
+    {
+        let s = self.spec;
+        Adsr {
+            phase: AdsrPhase::Sustain,
+            level_q8: s.sustain_q8,
+            samples_in_phase: 0,
+            ..self
+        }
+    }
+
+    fn end_release(self) -> Adsr
+        ensures { λ r. ⌜ r ≡ ended self ⌝ }
+    {
+        Adsr {
+            phase: AdsrPhase::Idle,
+            level_q8: 0,
+            ..self
         }
     }
 

@@ -5,7 +5,7 @@
 --     Ranges   where a float lies, from an order and in the words of the comparisons
 --     Keep     the phase stays from 0 up and below 1
 --     Step     a step lies in 0..0.499; 0 for 0 Hz, 0.499 above 16,777,216 Hz
---     Cut      a float cut to an i8, by where it lies
+--     Cut      a float cut to an i8: its whole part from its bits, and where it is held or 0
 pub mod Laws
 pub mod Turn
 pub mod Examples

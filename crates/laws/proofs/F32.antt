@@ -73,6 +73,3 @@ cut-ge a d k D h = le-div-iff-mul-le D .1 h
 
 pub cut-lt : (a d k : ℕ) → 0 < d → a < k * d → a / d < k
 cut-lt a d k D h = div-lt-iff-lt-mul D .1 h
-
-pub cut-le : (a d k : ℕ) → 0 < d → a ≤ k * d → a / d ≤ k
-cut-le a d k D h = let t : a / d < suc k = cut-lt a d (suc k) D (omega (arith, D, h)) in omega arith

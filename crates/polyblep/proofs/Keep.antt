@@ -5,7 +5,7 @@ use Prim.Native.Nat.{ℕ, _+_, _-_, _*_, _≤_, _<_}
 use native.Mathlib.Nat.{mul-pos, mul-le-mul-right, le-of-lt, lt-irrefl, lt-of-lt-of-le}
 use native.Mathlib.Omega.{arith}
 use mathlib.Core.Bool.{Bool, true, false, cond}
-use lib.IntN.{ℤ, pos, negsuc}
+use lib.IntN.{pos, negsuc}
 use lib.Dec.{T, ltb, ltb→lt, lt→ltb, leb→le}
 use lib.Ieee.{Float, nan, inf, fin, binary32, up, down, round, add, sub, neg, sum, le, lt, eq}
 use lib.Ieee.Fits.{down-pos}

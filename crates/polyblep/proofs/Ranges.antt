@@ -2,7 +2,7 @@
 use mathlib.Core.Path.{_≡_}
 use Prim.Native.Nat.{ℕ, _*_, _≤_, _<_}
 use native.Mathlib.Omega.{arith}
-use mathlib.Core.Bool.{true, false, _&&_}
+use mathlib.Core.Bool.{true, false}
 use lib.IntN.{ℤ, pos}
 use lib.Dec.{T, ltb→lt, lt→ltb, leb→le, le→leb}
 use lib.Ieee.{Float, nan, inf, fin, binary32, up, down, round, le, lt, eq}

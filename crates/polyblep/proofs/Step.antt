@@ -4,8 +4,8 @@ use Prim.Native.Nat.{ℕ, zero, suc, _*_, _≤_, _<_, _^_, max}
 use native.Mathlib.Nat.{lt-irrefl, mul-le-mul-right, mul-pos, zero-lt-suc}
 use native.Mathlib.Omega.{arith}
 use mathlib.Core.Bool.{Bool, true, false, cond, true≢false}
-use borrow.Author.Tests.{le-ltb, lt-ltb, ne-eqb}
-use lib.IntN.{ℤ, pos, negsuc}
+use borrow.Author.Tests.{lt-ltb, ne-eqb}
+use lib.IntN.{pos, negsuc}
 use lib.Dec.{T, eqb, leb→le, le→leb, eqb→eq, nltb→le}
 use lib.Ieee.{Float, nan, inf, fin, binary32, up, down, round, ofInt, div, lt, le, eq}
 use lib.Ieee.Fits.{down-pos, up-pos, and-r}

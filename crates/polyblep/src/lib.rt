@@ -1,9 +1,9 @@
 // Band-limited oscillator: a binary32 phase, four waveforms with their edges rounded off, every operation in the source's
-// order. corrections.rt has the corrections and the sine, waves.rt the waveforms.
+// order. corrections.rt has the corrections and the sine, waves.rt the waveforms, cast.rt the cut to eight bits.
 ghost use mathlib.Core.Path.{_≡_};
 ghost use Prim.Native.Nat.{max};
 ghost use Rattle.laws.specs.Made.{Made};
-ghost use Rattle.polyblep.specs.Oscillators.{Valid, Stepped, ValidVoice, FloatStepped, VoiceStepped, stepOf, newOscillator, atFrequency, atRate, withWaveform, atStart, advance, silentVoice, startedVoice, stoppedVoice, carrierOf, truncated};
+ghost use Rattle.polyblep.specs.Oscillators.{Valid, Stepped, ValidVoice, FloatStepped, VoiceStepped, stepOf, newOscillator, atFrequency, atRate, withWaveform, atStart, advance, silentVoice, startedVoice, stoppedVoice, carrierOf};
 use fixed::Given;
 
 mod cast;

@@ -3,7 +3,7 @@ use borrow.Author.Needs.{needs}
 use lib.Ieee.{ofBits, round}
 use mir.Syntax.{w8}
 use mir.ValLaws.{toZ-ofZ}
-use Rattle.polyblep.specs.Oscillators.{truncated, cutGiven}
+use Rattle.polyblep.specs.Oscillators.{truncated}
 use Rattle.polyblep.proofs.PolyBlepVoice.next_sample.Statement.{statement}
 use Rattle.polyblep.proofs.PolyBlepVoice.next_sample.Tie as tie
 

@@ -13,7 +13,7 @@ use Rattle.envelope.specs.declared.AdsrPhase.{AdsrPhase}
 use Rattle.envelope.specs.declared.AdsrPhase.the-variants as P
 use Rattle.envelope.specs.declared.Envelope.{Envelope}
 use Rattle.envelope.specs.Samples.{samplesOf}
-use Rattle.envelope.specs.Adsrs.{Valid, Made, Counting, Times, idleAdsr, inPhase, attackLength, decayLength, releaseLength, beganDecay, beganRelease, triggered, released, advancedToward, orAtEnd, ticked, tickedIn, active, activeIn, running}
+use Rattle.envelope.specs.Adsrs.{Valid, Counting, Times, idleAdsr, inPhase, attackLength, decayLength, releaseLength, beganDecay, beganRelease, triggered, released, advancedToward, orAtEnd, ticked, tickedIn, active, activeIn, running}
 use Rattle.envelope.specs.Alone.{ValidEnvelope, triggeredEnvelope, releasedEnvelope, tickedEnvelope}
 
 -- ---- 65,535 × 65,537 = 2^32 − 1
@@ -22,10 +22,6 @@ product-fits {ms} {rate} h k = le-trans (mul-le-mul-right rate h) (mul-le-mul-le
 
 pub samples≤ : {ms rate : ℕ} → ms ≤ 65535 → rate ≤ 65537 → samplesOf ms rate ≤ 4294967
 samples≤ h k = omega (arith, product-fits h k)
-
--- ---- what is valid
-pub made : {a r : Adsr} → r ≡ a → Valid a → Made a r
-made e h = record { same = e; valid = rw e h }
 
 first : {n : ℕ} → (n ≡ 0 → ⊥) → n ≤ 4294967 → Counting 0 n
 first d h = record { below = omega arith; short = h }

@@ -1,7 +1,5 @@
 -- What callers and the proofs cite.
 --     Levels      the step of a level: between level and target, at c = length the target, no sign lost
 --     Laws        each definition keeps an envelope valid; what an idle one stays; a tick by the end of its phase
---     Examples    document 01's examples, computed
 pub mod Levels
 pub mod Laws
-pub mod Examples

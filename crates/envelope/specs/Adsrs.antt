@@ -145,8 +145,3 @@ pub record Valid (a : Adsr) : Type 0 where
   pub rate : a .«sample_rate_hz» ≤ 65537
   pub times : Times (a .spec)
   pub counts : running (a .phase) ≡ true → Counting (a .«samples_in_phase») (a .«phase_length_samples»)
-
--- r is a, and has it
-pub record Made (a r : Adsr) : Type 0 where
-  pub same : r ≡ a
-  pub valid : Valid r

@@ -14,11 +14,6 @@ use Rattle.envelope.specs.Adsrs.{Valid, idleAdsr, triggered, released, t
 pub record ValidEnvelope (e : Envelope) : Type 0 where
   pub inside : Valid (e .adsr)
 
--- r is e, and is valid
-pub record MadeEnvelope (e r : Envelope) : Type 0 where
-  pub same : r ≡ e
-  pub valid : ValidEnvelope r
-
 unfoldable pub triggeredEnvelope : Envelope → Envelope
 triggeredEnvelope e = record { adsr = triggered (e .adsr) }
 

@@ -1,9 +1,10 @@
 // The ADSR envelope in Q8: a part of every voice, and an envelope that is opened alone.
 ghost use mathlib.Core.Path.{_≡_};
 ghost use Prim.Native.Nat.{_<_, _≤_};
+ghost use Rattle.laws.specs.Made.{Made};
 ghost use Rattle.envelope.specs.Samples.{samplesOf};
-ghost use Rattle.envelope.specs.Adsrs.{Valid, Made, Counting, clickSpec, padSpec, idleAdsr, triggered, released, ticked, beganDecay, advancedToward, nextLevel, active};
-ghost use Rattle.envelope.specs.Alone.{ValidEnvelope, MadeEnvelope, OpenedAs, triggeredEnvelope, releasedEnvelope, tickedEnvelope};
+ghost use Rattle.envelope.specs.Adsrs.{Valid, Counting, clickSpec, padSpec, idleAdsr, triggered, released, ticked, beganDecay, sustained, ended, advancedToward, nextLevel, active};
+ghost use Rattle.envelope.specs.Alone.{ValidEnvelope, OpenedAs, triggeredEnvelope, releasedEnvelope, tickedEnvelope};
 use error::AudioError;
 
 // Durations in milliseconds; 0 skips the phase.
@@ -115,7 +116,7 @@ impl Adsr {
 
     pub fn trigger(self) -> Adsr
         requires { ⌜ Valid self ⌝ }
-        ensures { λ r. ⌜ Made (triggered self) r ⌝ }
+        ensures { λ r. ⌜ Made Valid (triggered self) r ⌝ }
     {
         let s = self.spec;
         let length = ms_to_samples(s.attack_ms, self.sample_rate_hz);
@@ -131,7 +132,7 @@ impl Adsr {
 
     pub fn release(self) -> Adsr
         requires { ⌜ Valid self ⌝ }
-        ensures { λ r. ⌜ Made (released self) r ⌝ }
+        ensures { λ r. ⌜ Made Valid (released self) r ⌝ }
     {
         if self.is_active() {
             let s = self.spec;
@@ -159,7 +160,7 @@ impl Adsr {
 
     pub fn tick(self) -> Adsr
         requires { ⌜ Valid self ⌝ }
-        ensures { λ r. ⌜ Made (ticked self) r ⌝ }
+        ensures { λ r. ⌜ Made Valid (ticked self) r ⌝ }
     {
         let p = self.phase;
         match p {
@@ -175,12 +176,7 @@ impl Adsr {
                 let s = self.spec;
                 let a = self.advance_toward(s.sustain_q8);
                 if a.samples_in_phase >= a.phase_length_samples {
-                    Adsr {
-                        phase: AdsrPhase::Sustain,
-                        level_q8: s.sustain_q8,
-                        samples_in_phase: 0,
-                        ..a
-                    }
+                    a.end_decay()
                 } else {
                     a
                 }
@@ -188,11 +184,7 @@ impl Adsr {
             AdsrPhase::Release => {
                 let a = self.advance_toward(0);
                 if a.samples_in_phase >= a.phase_length_samples {
-                    Adsr {
-                        phase: AdsrPhase::Idle,
-                        level_q8: 0,
-                        ..a
-                    }
+                    a.end_release()
                 } else {
                     a
                 }
@@ -223,6 +215,28 @@ impl Adsr {
                 phase_length_samples: length,
                 ..self
             }
+        }
+    }
+
+    fn end_decay(self) -> Adsr
+        ensures { λ r. ⌜ r ≡ sustained self ⌝ }
+    {
+        let s = self.spec;
+        Adsr {
+            phase: AdsrPhase::Sustain,
+            level_q8: s.sustain_q8,
+            samples_in_phase: 0,
+            ..self
+        }
+    }
+
+    fn end_release(self) -> Adsr
+        ensures { λ r. ⌜ r ≡ ended self ⌝ }
+    {
+        Adsr {
+            phase: AdsrPhase::Idle,
+            level_q8: 0,
+            ..self
         }
     }
 
@@ -264,7 +278,7 @@ impl Envelope {
 
     pub fn trigger(self) -> Envelope
         requires { ⌜ ValidEnvelope self ⌝ }
-        ensures { λ r. ⌜ MadeEnvelope (triggeredEnvelope self) r ⌝ }
+        ensures { λ r. ⌜ Made ValidEnvelope (triggeredEnvelope self) r ⌝ }
     {
         let a = self.adsr;
         let adsr = a.trigger();
@@ -273,7 +287,7 @@ impl Envelope {
 
     pub fn release(self) -> Envelope
         requires { ⌜ ValidEnvelope self ⌝ }
-        ensures { λ r. ⌜ MadeEnvelope (releasedEnvelope self) r ⌝ }
+        ensures { λ r. ⌜ Made ValidEnvelope (releasedEnvelope self) r ⌝ }
     {
         let a = self.adsr;
         let adsr = a.release();
@@ -282,7 +296,7 @@ impl Envelope {
 
     pub fn tick(self) -> Envelope
         requires { ⌜ ValidEnvelope self ⌝ }
-        ensures { λ r. ⌜ MadeEnvelope (tickedEnvelope self) r ⌝ }
+        ensures { λ r. ⌜ Made ValidEnvelope (tickedEnvelope self) r ⌝ }
     {
         let a = self.adsr;
         let adsr = a.tick();
@@ -314,7 +328,7 @@ impl Envelope {
 // The tick on an envelope that is lent for change.
 pub fn tick_in_place(e: &mut Envelope)
     requires { ⌜ ValidEnvelope (now e) ⌝ }
-    ensures { λ _. ⌜ MadeEnvelope (tickedEnvelope (now (e .entry))) (now (e .exit)) ⌝ }
+    ensures { λ _. ⌜ Made ValidEnvelope (tickedEnvelope (now (e .entry))) (now (e .exit)) ⌝ }
 {
     let t = *e;
     *e = t.tick();

@@ -8,7 +8,9 @@
 --     Made      a value that is x, which is valid, is Made: made
 --     Finite    a rule over all numbers below a bound by one computed test: below, between, same-at, fits-at, i8
 --     Lists     runs of stores: sets-append, sets-last
---     F32       float tests as facts about numbers: or-le, nor-lt; cut quotients: cut-ge, cut-lt; literals: zero-is, one-is
+--     F32       float tests as facts about numbers: or-le, nor-lt, le-or, or-ge, nor-gt; cut quotients: cut-ge, cut-lt, cut-le;
+--               literals: zero-is, one-is
+--     Rounding  what rounding gives: nonNeg, not-below-zero, round-nonNeg, round-up, round-down; a float is what its own fraction rounds to: own
 pub mod Bools
 pub mod Signed
 pub mod Held
@@ -17,3 +19,4 @@ pub mod Made
 pub mod Finite
 pub mod Lists
 pub mod F32
+pub mod Rounding

@@ -2,7 +2,7 @@
 ghost use mathlib.Core.Path.{_≡_};
 ghost use Prim.Native.Nat.{_+_, _-_, _*_, _/_, _≤_};
 ghost use lib.ListN.{length};
-ghost use Rattle.envelope.specs.Alone.{ValidEnvelope, MadeEnvelope, OpenedAs, tickedEnvelope};
+ghost use Rattle.envelope.specs.Alone.{ValidEnvelope, OpenedAs, tickedEnvelope};
 ghost use Rattle.envelope.specs.declared.Opened.the-variants as O;
 ghost use Rattle.output.specs.declared.PeriodRead.the-variants as P;
 ghost use Rattle.output.specs.Duty.{ValidPeriod, ValidMapper, ValidMapped};
@@ -60,7 +60,7 @@ fn ticks(out: &mut [u8; 262144], at: usize, first: Envelope, count: u16) -> Tick
     requires { ⌜ at + 2 * count ≤ 262144 ⌝ }
     ensures { λ r. ⌜ Wrote (now (out .entry)) at (texts tickedEnvelope levelText count first) (now (out .exit)) (r .next) ⌝ }
     ensures { λ r. ⌜ r .next ≡ at + 2 * count ⌝ }
-    ensures { λ r. ⌜ MadeEnvelope (stepped tickedEnvelope count first) (r .envelope) ⌝ }
+    ensures { λ r. ⌜ Made ValidEnvelope (stepped tickedEnvelope count first) (r .envelope) ⌝ }
 {
     let mut e = first;
     let mut next = at;
@@ -96,7 +96,7 @@ pub fn levels(l: &[u8], out: &mut [u8; 262144]) -> usize
 
 fn ticked_by(first: Envelope, count: u16) -> Envelope
     requires { ⌜ ValidEnvelope first ⌝ }
-    ensures { λ r. ⌜ MadeEnvelope (stepped tickedEnvelope count first) r ⌝ }
+    ensures { λ r. ⌜ Made ValidEnvelope (stepped tickedEnvelope count first) r ⌝ }
 {
     let mut e = first;
     let mut left = count;

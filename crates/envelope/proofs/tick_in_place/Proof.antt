@@ -35,7 +35,8 @@ use denote.Triple.Spec.{Meets, tripleOf}
 use denote.Triple.Table.{entered, cited}
 use denote.Triple.Walked.{says, needs, Stays, stay-ref, walkOf, goes-ref, Walks, ends-at, walked, walk-meets}
 use Rattle.envelope.specs.declared.Envelope.{Envelope}
-use Rattle.envelope.specs.Alone.{ValidEnvelope, MadeEnvelope, tickedEnvelope}
+use Rattle.envelope.specs.Alone.{ValidEnvelope, tickedEnvelope}
+use Rattle.laws.specs.Made.{Made}
 use Rattle.envelope.proofs.Envelope as T
 use Rattle.envelope.proofs.Envelope.Laws as T′
 use Rattle.envelope.proofs.Envelope.tick as tick
@@ -62,8 +63,8 @@ module _ {M : Type 1} (𝓤 : URA M) (H : Heap 𝓤) (A : Atoms 𝓤) (at-mem : 
   abbrev Tick : Contract 𝓤
   Tick = tripleOf 𝓤 H A tick.signature (tick.spec 𝓤 H A at-mem run)
 
-  made-of : (e r : Envelope) → ent 𝓤 (ensured 𝓤 H A tick.ended (tick.clauses 𝓤 H A at-mem run) tt (e, tt) tt r) (fact 𝓤 (MadeEnvelope (tickedEnvelope e) r))
-  made-of e r = exE 𝓤 _ (λ ws. snd∗ 𝓤 (sem 𝓤 H A (lasts tick.ended tt (e, tt) ws)) (fact 𝓤 (MadeEnvelope (tickedEnvelope e) r)))
+  made-of : (e r : Envelope) → ent 𝓤 (ensured 𝓤 H A tick.ended (tick.clauses 𝓤 H A at-mem run) tt (e, tt) tt r) (fact 𝓤 (Made ValidEnvelope (tickedEnvelope e) r))
+  made-of e r = exE 𝓤 _ (λ ws. snd∗ 𝓤 (sem 𝓤 H A (lasts tick.ended tt (e, tt) ws)) (fact 𝓤 (Made ValidEnvelope (tickedEnvelope e) r)))
 
 module _ {M : Type 1} (𝓤 : URA M) (H : Heap 𝓤) (A : Atoms 𝓤) (W : Given 𝓤 H A) (at-mem : Memory → SProp 𝓤) (run : Routine → Fun 𝓤) (κ : Lft) (q : Share) (b o : ℕ) (γ : GName) (h : Envelope) where
   abbrev x : Arg
@@ -75,7 +76,7 @@ module _ {M : Type 1} (𝓤 : URA M) (H : Heap 𝓤) (A : Atoms 𝓤) (W : Given
   abbrev Post : Val → SProp 𝓤
   Post = walkOf 𝓤 H A here.ended stayed (here.clauses 𝓤 H A at-mem run) .post (((κ, tt), (q, tt), tt, x, at), tt)
 
-  exits : (r : Envelope) → MadeEnvelope (tickedEnvelope h) r → ent 𝓤 (sep 𝓤 (A .obs γ (T.the-row .coded .code r)) (sep 𝓤 (A .bor κ (Body (mem T.the-row) b o γ)) (A .lft κ q))) (Post vunit)
+  exits : (r : Envelope) → Made ValidEnvelope (tickedEnvelope h) r → ent 𝓤 (sep 𝓤 (A .obs γ (T.the-row .coded .code r)) (sep 𝓤 (A .bor κ (Body (mem T.the-row) b o γ)) (A .lft κ q))) (Post vunit)
   exits r e =
       qed W (‵ (fobs γ (T.the-row .coded .code r)) ∷ ‵ (fbor κ (Body (mem T.the-row) b o γ)) ∷ ‵ (flft κ q) ∷ []) ∵
       suffices ! _ (ends-at 𝓤 H A here.ended stayed (here.clauses 𝓤 H A at-mem run) W (((κ, tt), (q, tt), tt, x, at), tt) vunit tt (r, tt) (tt, tt)) $ says ! e $ nothing ! $ move ! (3 ∷ 0 ∷ []) $ join ! $
@@ -103,7 +104,7 @@ module _ {M : Type 1} (𝓤 : URA M) (H : Heap 𝓤) (A : Atoms 𝓤) (W : Given
         move ! (1 ∷ []) $ use1 W (raw (Tick 𝓤 H A at-mem run .pre to-tick)) (goes-tick valid) $
         calls-at ! fm (Tick 𝓤 H A at-mem run) known to-tick (and-then ! (load ! (from ! (stop !)) (look ! 7 refl)) (no-more !)) (λ v.
         use1 W (later (some (λ (r : Envelope). (‵ ftrue ⊛ ‵ (T.the-row .own r (v ∷ []))) ⊛ raw (ensured 𝓤 H A tick.ended (tick.clauses 𝓤 H A at-mem run) tt (h, tt) tt r)))) (id⊢ 𝓤 _) $ await ! tt $ pick ! (λ r.
-        split ! $ move ! (1 ∷ []) $ use1 W (raw (fact 𝓤 (MadeEnvelope (tickedEnvelope h) r))) (made-of 𝓤 H A at-mem run h r) $ heard ! (MadeEnvelope (tickedEnvelope h) r) (λ e. split ! $ drop ! $
+        split ! $ move ! (1 ∷ []) $ use1 W (raw (fact 𝓤 (Made ValidEnvelope (tickedEnvelope h) r))) (made-of 𝓤 H A at-mem run h r) $ heard ! (Made ValidEnvelope (tickedEnvelope h) r) (λ e. split ! $ drop ! $
         peeks ! T.the-row (Is T.the-row) (shows 𝓤 H A T.the-row) r (v ∷ []) (λ is′.
         -- [what the ticked one owns; the cell; the open borrow; obs; auth; room for _3; …; _2; …; _1; …; room for _0; …]
         land ! (from ! (stop !)) (init ! 5 refl (LL.lawful T.the-type T′.the-laws 𝓤 H A W .typed r _ is′ .0)) $

@@ -2,7 +2,8 @@
 use borrow.Author.Needs.{needs}
 use borrow.Author.Tests.{eq-eqb, ne-eqb}
 use Rattle.envelope.specs.Adsrs.{released}
-use Rattle.envelope.proofs.Laws.{made, valid-released}
+use Rattle.laws.proofs.Made.{made}
+use Rattle.envelope.proofs.Laws.{valid-released}
 use Rattle.envelope.proofs.Adsr.release.Statement.{statement}
 use Rattle.envelope.proofs.Adsr.release.Tie as tie
 

@@ -2,8 +2,9 @@
 use mathlib.Core.Path.{refl, _∙_}
 use borrow.Author.Needs.{needs}
 use Rattle.envelope.specs.declared.AdsrPhase.the-variants as P
-use Rattle.envelope.specs.Adsrs.{ticked, advancedToward, inPhase, beganDecay, sustained, ended}
-use Rattle.envelope.proofs.Laws.{made, valid-ticked, goes-on, ends}
+use Rattle.envelope.specs.Adsrs.{ticked, advancedToward, beganDecay, sustained, ended}
+use Rattle.laws.proofs.Made.{made}
+use Rattle.envelope.proofs.Laws.{valid-ticked, goes-on, ends}
 use Rattle.envelope.proofs.Adsr.tick.Statement.{statement}
 use Rattle.envelope.proofs.Adsr.tick.Tie as tie
 
@@ -34,11 +35,9 @@ returns-2 c =
     (valid-ticked (c .before .before .before .before .before .pre))
 
 returns-3 : tie.Need-returns-3
-unfolding advancedToward
 returns-3 c =
     let a = c .before .before .before .before .before .before .before .args .self in
-    let l = a .spec .«sustain_q8» in
-    made (ends P.Decay a l (λ x. inPhase x P.Sustain l 0 (x .«phase_length_samples»)) refl (c .before .before .before .before .before .enum-told2 .given .1) (c .before .before .before .advance-toward2 .ensures) (c .before .if2 .taken))
+    made (c .end-decay .ensures ∙ ends P.Decay a (a .spec .«sustain_q8») sustained refl (c .before .before .before .before .before .enum-told2 .given .1) (c .before .before .before .advance-toward2 .ensures) (c .before .if2 .taken))
     (valid-ticked (c .before .before .before .before .before .before .before .pre))
 
 returns-4 : tie.Need-returns-4
@@ -50,7 +49,7 @@ returns-4 c =
 returns-5 : tie.Need-returns-5
 returns-5 c =
     let a = c .before .before .before .before .before .before .args .self in
-    made (ends P.Release a 0 ended refl (c .before .before .before .before .enum-told3 .given .1) (c .before .before .before .advance-toward3 .ensures) (c .before .if3 .taken))
+    made (c .end-release .ensures ∙ ends P.Release a 0 ended refl (c .before .before .before .before .enum-told3 .given .1) (c .before .before .before .advance-toward3 .ensures) (c .before .if3 .taken))
     (valid-ticked (c .before .before .before .before .before .before .pre))
 
 returns-6 : tie.Need-returns-6
@@ -76,8 +75,10 @@ tick-spec =
     begin-decay-requires
     (λ c. search needs)
     advance-toward-requires-2
+    (λ c κs. search needs)
     (λ c. search needs)
     advance-toward-requires-3
+    (λ c κs. search needs)
     (λ c. search needs)
     (λ c. search needs)
     returns

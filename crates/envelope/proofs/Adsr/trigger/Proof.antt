@@ -2,7 +2,8 @@
 use borrow.Author.Needs.{needs}
 use borrow.Author.Tests.{eq-eqb, ne-eqb}
 use Rattle.envelope.specs.Adsrs.{triggered}
-use Rattle.envelope.proofs.Laws.{made, valid-triggered}
+use Rattle.laws.proofs.Made.{made}
+use Rattle.envelope.proofs.Laws.{valid-triggered}
 use Rattle.envelope.proofs.Adsr.trigger.Statement.{statement}
 use Rattle.envelope.proofs.Adsr.trigger.Tie as tie
 

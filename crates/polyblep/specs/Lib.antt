@@ -1,0 +1,11 @@
+-- What a reader believes of PolyBLEP, from document 01 and, for the order of the float operations, the source.
+--     Ranges       where a phase and a step lie
+--     Blep         the two corrections
+--     Sine         the source's approximation of the sine
+--     Waves        the four waveforms at a phase and a step
+--     Oscillators  the oscillator and the voice around it, call by call
+pub mod Ranges
+pub mod Blep
+pub mod Sine
+pub mod Waves
+pub mod Oscillators

@@ -1,0 +1,73 @@
+-- Each definition keeps a source and a voice valid. Assumes nothing.
+use mathlib.Core.Path.{_≡_, refl}
+use mathlib.Core.Bool.{Bool, true, false, cond}
+use Prim.Native.Nat.{ℕ, _≤_}
+use native.Mathlib.Omega.{arith}
+use Rattle.envelope.specs.declared.Adsr.{Adsr}
+use Rattle.envelope.specs.declared.AdsrSpec.{AdsrSpec}
+use Rattle.envelope.specs.Adsrs as A
+use Rattle.envelope.proofs.Laws as E
+use Rattle.polyblep.proofs.Laws as B
+use Rattle.voice.specs.Sources.{ValidSource, ValidStep, ValidStarted, steppedSource, startedEntry}
+use Rattle.voice.specs.Voices.{Valid, sounding, silentVoice, triggeredVoice, releasedVoice, stoppedVoice, audible, tickedVoice, steppedVoice}
+use Rattle.tier.specs.declared.EffectKind.{EffectKind}
+use Rattle.tier.specs.declared.EffectKind.the-variants as K
+use Rattle.voice.specs.declared.source.VoiceSource.{VoiceSource}
+use Rattle.voice.specs.declared.source.VoiceSource.the-variants as S
+use Rattle.voice.specs.declared.Voice.{Voice}
+
+pub valid-source-stepped : (s : VoiceSource) → ValidSource s → ValidStep (steppedSource s)
+unfolding steppedSource
+valid-source-stepped S.Idle h = tt
+valid-source-stepped (S.Tone v) h = tt
+valid-source-stepped (S.PolyBlep v) h = B.valid-stepped v h
+valid-source-stepped (S.Fm v) h = tt
+
+pub valid-entry : (k : EffectKind) (param0 param1 rate : ℕ) → ValidStarted (startedEntry k param0 param1 rate)
+unfolding startedEntry
+valid-entry K.Tone a b r = tt
+valid-entry K.Fm a b r = tt
+valid-entry K.Wavetable a b r = tt
+valid-entry K.Pcm8 a b r = tt
+valid-entry K.Adpcm a b r = tt
+valid-entry K.SigmaDeltaBits a b r = tt
+
+pub click-times : A.Times A.clickSpec
+click-times = record { attack = omega arith; decay = omega arith; release = omega arith }
+
+valid-click : {rate : ℕ} → rate ≤ 65537 → A.Valid (A.idleAdsr A.clickSpec rate)
+valid-click h = E.valid-idle h click-times
+
+pub valid-silent : {rate : ℕ} → rate ≤ 65537 → Valid (silentVoice rate)
+unfolding silentVoice
+valid-silent h = record { rate = h; source = tt; adsr = valid-click h }
+
+pub valid-sounding : {v : Voice} {s : VoiceSource} {a : Adsr} → Valid v → ValidSource s → A.Valid a → Valid (sounding v s a)
+valid-sounding h k l = record { rate = h .rate; source = k; adsr = l }
+
+pub valid-triggered : {v : Voice} {spec : AdsrSpec} → Valid v → A.Times spec → Valid (triggeredVoice v spec)
+unfolding triggeredVoice
+valid-triggered h t = valid-sounding h (h .source) (E.valid-triggered (E.valid-idle (h .rate) t))
+
+pub valid-released : {v : Voice} → Valid v → Valid (releasedVoice v)
+unfolding releasedVoice
+valid-released h = valid-sounding h (h .source) (E.valid-released (h .adsr))
+
+pub valid-stopped : {v : Voice} → Valid v → Valid (stoppedVoice v)
+unfolding stoppedVoice
+valid-stopped h = valid-sounding h tt (valid-click (h .rate))
+
+pub valid-ticked : {v : Voice} → Valid v → Valid (tickedVoice v)
+unfolding tickedVoice
+valid-ticked {v} h = go (audible (sounding v (v .source) (A.ticked (v .adsr))))
+  where
+    t : Valid (sounding v (v .source) (A.ticked (v .adsr)))
+    t = valid-sounding h (h .source) (E.valid-ticked (h .adsr))
+
+    go : (b : Bool) → Valid (cond b (sounding v (v .source) (A.ticked (v .adsr))) (sounding v S.Idle (A.ticked (v .adsr))))
+    go true = t
+    go false = valid-sounding h tt (t .adsr)
+
+pub valid-stepped : {v : Voice} → Valid v → Valid (steppedVoice v .voice)
+unfolding steppedVoice
+valid-stepped {v} h = valid-sounding h (valid-source-stepped (v .source) (h .source)) (h .adsr)

@@ -263,7 +263,7 @@ const SINE_TABLE: [u8; 256] = [
 ];
 
 // The entry read as two's complement, as the source reads it: 128 counts as -128.
-pub fn sine_entry(index: u8) -> i8
+pub(crate) fn sine_entry(index: u8) -> i8
     ensures { λ r. ⌜ r ≡ tableSine index ⌝ }
 {
     let i = index as usize;

@@ -16,7 +16,7 @@ fn whole_part(x: f32) -> u32
 }
 
 // x without its fraction, held to -128..127; a NaN is 0.
-pub fn to_i8(x: f32) -> i8
+pub(crate) fn to_i8(x: f32) -> i8
     ensures { λ r. ⌜ r ≡ toSigned 7 x ⌝ }
 {
     if x >= 1.0 {

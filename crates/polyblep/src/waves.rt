@@ -55,7 +55,7 @@ fn shape_at(waveform: PolyBlepWaveform, t: f32, dt: f32) -> f32
     }
 }
 
-pub fn sample_at(waveform: PolyBlepWaveform, t: f32, dt: f32) -> f32
+pub(crate) fn sample_at(waveform: PolyBlepWaveform, t: f32, dt: f32) -> f32
     requires { ⌜ T (below 1 1 t) ⌝ }
     ensures { λ r. ⌜ r ≡ sampleAt waveform t dt ⌝ }
 {

@@ -35,6 +35,11 @@ returns-5 c =
     let t = c .before .before in
     done (search needs) (sym (t .before .before .reply-of .ensures) ∙ t .enum-told4 .given .1) (c .duties .ensures)
 
+returns-6 : tie.Need-returns-6
+returns-6 c =
+    let t = c .before .before in
+    done (search needs) (sym (t .before .before .reply-of .ensures) ∙ t .enum-told5 .given .1) (c .source .ensures)
+
 pub answer-spec : {M : Type 1} → statement M
 answer-spec =
     tie.close
@@ -51,8 +56,11 @@ answer-spec =
     (λ c κs. search needs)
     (λ c. search needs)
     duties-requires
+    (λ c. search needs)
+    (λ c κs. search needs)
     returns
     returns-2
     returns-3
     returns-4
-    returns-5)
+    returns-5
+    returns-6)

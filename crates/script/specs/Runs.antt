@@ -40,13 +40,14 @@ texts step text (suc n) s = text (step s) ++ texts step text n (step s)
 abbrev pub numberLine : ℕ → List ℕ
 numberLine n = hexOf 2 n ++ newline
 
--- "E": attack ms (2), decay ms (2), sustain (1), release ms (2); then the rate (4)
-abbrev pub specAt : List ℕ → AdsrSpec
-specAt l =
-    record { «attack_ms» = wideAt l 1; «decay_ms» = wideAt l 3; «sustain_q8» = byteAt l 5; «release_ms» = wideAt l 6 }
+-- "E": attack ms (2), decay ms (2), sustain (1), release ms (2), from byte k on
+abbrev pub specAt : List ℕ → ℕ → AdsrSpec
+specAt l k =
+    record { «attack_ms» = wideAt l k; «decay_ms» = wideAt l (k + 2); «sustain_q8» = byteAt l (k + 4); «release_ms» = wideAt l (k + 5) }
 
+-- E, then the rate (4)
 abbrev pub openedAt : List ℕ → Opened
-openedAt l = opened (specAt l) (longAt l 8)
+openedAt l = opened (specAt l 1) (longAt l 8)
 
 abbrev pub levelText : Envelope → List ℕ
 levelText e = hexOf 2 (e .adsr .«level_q8»)

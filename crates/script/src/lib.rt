@@ -1,4 +1,4 @@
-// Answers to a script's lines: records 40 to 48 of the replay format and our own 50 to 60.
+// Answers to a script's lines: records 40 to 48 of the replay format and our own 50 to 61.
 ghost use mathlib.Core.Path.{_≡_};
 ghost use Rattle.script.specs.Replies.{sized, dutiesReply, replyFor, replyOf};
 ghost use Rattle.script.specs.Answers.{Answers};
@@ -12,6 +12,7 @@ mod outputs;
 mod runs;
 mod sounds;
 mod states;
+mod voices;
 
 // What is answered to a line: that it is bad, a number in so many digits, or one of the runs.
 pub enum Reply {
@@ -21,6 +22,7 @@ pub enum Reply {
     State,
     Duties,
     Source,
+    Voice,
 }
 
 // How many bytes the answer has, and whether the run goes on.
@@ -84,6 +86,7 @@ fn reply_for(code: u8, l: &[u8]) -> Reply
         0x58 => sized(n, 15, Reply::State),
         0x59 => sized(n, 1, outputs::conversion_to_i32(l)),
         0x60 => sized(n, 17, sounds::source_reply(l)),
+        0x61 => sized(n, 28, voices::voice_reply(l)),
         _ => Reply::Bad,
     }
 }
@@ -133,6 +136,10 @@ pub fn answer(line: &[u8], out: &mut [u8; 262144]) -> Answered
         }
         Reply::Source => {
             let len = sounds::source(line, out);
+            Answered { len, more: true }
+        }
+        Reply::Voice => {
+            let len = voices::voice(line, out);
             Answered { len, more: true }
         }
     }

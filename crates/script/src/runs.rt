@@ -37,21 +37,23 @@ struct Ticked {
     next: usize,
 }
 
-fn spec_at(l: &[u8]) -> AdsrSpec
-    ensures { λ r. ⌜ r ≡ specAt (now (l .entry)) ⌝ }
+// An envelope's times, from byte k on.
+pub fn spec_at(l: &[u8], k: usize) -> AdsrSpec
+    requires { ⌜ k ≤ 60000 ⌝ }
+    ensures { λ r. ⌜ r ≡ specAt (now (l .entry)) k ⌝ }
 {
     AdsrSpec {
-        attack_ms: wide_at(l, 1),
-        decay_ms: wide_at(l, 3),
-        sustain_q8: byte_at(l, 5),
-        release_ms: wide_at(l, 6),
+        attack_ms: wide_at(l, k),
+        decay_ms: wide_at(l, k + 2),
+        sustain_q8: byte_at(l, k + 4),
+        release_ms: wide_at(l, k + 5),
     }
 }
 
 fn open_at(l: &[u8]) -> Opened
-    ensures { λ r. ⌜ OpenedAs (specAt (now (l .entry))) (longAt (now (l .entry)) 8) r ⌝ }
+    ensures { λ r. ⌜ OpenedAs (specAt (now (l .entry)) 1) (longAt (now (l .entry)) 8) r ⌝ }
 {
-    let spec = spec_at(l);
+    let spec = spec_at(l, 1);
     Envelope::open(spec, long_at(l, 8))
 }
 

@@ -145,8 +145,8 @@ fn requests(out: &mut [u8; 262144], at: usize, first: SourceStep, count: u16) ->
     let mut next = at;
     let mut left = count;
     while left > 0 {
-        let s = last.source;
-        last = s.next_raw_sample();
+        let source = last.source;
+        last = source.next_raw_sample();
         let g = last.given;
         next = put(out, next, given_number(g), 4);
         left -= 1;

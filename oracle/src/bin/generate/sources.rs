@@ -90,6 +90,26 @@ pub fn voices(script: &mut Script) {
     }
 }
 
+/// For the recorded list: document 01's first PolyBLEP samples (sawtooth 127, square 0), then a run of each waveform, printed
+/// past its end, and a voice of each on one side and on two; rates that are refused or just not.
+pub fn recorded(script: &mut Script) {
+    for waveform in [1, 2] {
+        script.add(&source(start((2, waveform), 440, 0, 48_000), 0, 1));
+    }
+    for shape in SHAPES {
+        script.add(&source(start(shape, 440, 10, 8_000), 20, 70));
+        for stereo in 0..2 {
+            let mut fields = start(shape, 440, 10, 8_000);
+            fields.extend([u16(2), u16(3), u8(100), u16(4), u8(200), u8(90), u8(stereo)]);
+            fields.extend([u24(20), u8(stereo), u16(70)]);
+            script.add(&record(0x61, &fields));
+        }
+        for rate in [0, 65_537, 65_538] {
+            script.add(&source(start(shape, 440, 10, rate), 3, 3));
+        }
+    }
+}
+
 fn any_start(draw: &mut Draw) -> Vec<Field> {
     let (shape, hz) = (draw.pick(&SHAPES), draw.u32());
     let (parameter, rate) = (draw.u16(), draw.rate());

@@ -16,7 +16,7 @@ impl Peek for Voice<'_> {
 }
 
 /// The sources are numbered as document 01 lists them, without those that are not carried over.
-fn peek_source(source: &VoiceSource, to: &mut alloc::vec::Vec<i64>) {
+pub fn peek_source(source: &VoiceSource, to: &mut alloc::vec::Vec<i64>) {
     let (number, fields): (i64, &dyn Peek) = match source {
         VoiceSource::Idle => return to.push(0),
         VoiceSource::Tone(tone) => (1, tone),

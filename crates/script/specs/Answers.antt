@@ -7,8 +7,10 @@ use lib.ListN.{length, drop}
 use Rattle.script.specs.Hex.{hexOf, newline}
 use Rattle.script.specs.Replies.{replyOf}
 use Rattle.script.specs.Runs.{levelsText, stateText, dutiesText}
+use Rattle.script.specs.Sounds.{sourceText}
+use Rattle.script.specs.Voices.{voiceText}
 use Rattle.script.specs.declared.Reply.{Reply}
-use Rattle.script.specs.declared.Reply.the-variants.{Bad, Word, Levels, State, Duties}
+use Rattle.script.specs.declared.Reply.the-variants.{Bad, Word, Levels, State, Duties, Source, Voice}
 use Rattle.script.specs.declared.Answered.{Answered}
 
 -- a bad line "prints FFFF"
@@ -18,6 +20,8 @@ textOf (Word value digits) l = hexOf digits value ++ newline
 textOf Levels l = levelsText l
 textOf State l = stateText l
 textOf Duties l = dutiesText l
+textOf Source l = sourceText l
+textOf Voice l = voiceText l
 
 unfoldable pub replyText : List ℕ → List ℕ
 replyText l = textOf (replyOf l) l
@@ -29,6 +33,8 @@ goesOn (Word value digits) = true
 goesOn Levels = true
 goesOn State = true
 goesOn Duties = true
+goesOn Source = true
+goesOn Voice = true
 
 -- the text stands before the rest of what the buffer held
 pub record Answers (l before after : List ℕ) (r : Answered) : Type 0 where

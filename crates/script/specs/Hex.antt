@@ -22,7 +22,7 @@ allDigits (c ∷ l) = isDigit c && allDigits l
 unfoldable pub digitOf : ℕ → ℕ
 digitOf c = cond (between 48 57 c) (c - 48) (cond (between 65 70 c) (c - 55) 0)
 
--- the fields of a line of digits: one byte, two and four, from byte k on; past the end every digit is 0
+-- the fields of a line of digits: one byte, two, four and three, from byte k on; past the end every digit is 0
 abbrev pub byteAt : List ℕ → ℕ → ℕ
 byteAt l k = 16 * digitOf (getD l (2 * k) 0) + digitOf (getD l (2 * k + 1) 0)
 
@@ -32,6 +32,9 @@ wideAt l k = 256 * byteAt l k + byteAt l (k + 1)
 abbrev pub longAt : List ℕ → ℕ → ℕ
 longAt l k = 65536 * wideAt l k + wideAt l (k + 2)
 
+abbrev pub threeAt : List ℕ → ℕ → ℕ
+threeAt l k = 256 * wideAt l k + byteAt l (k + 2)
+
 abbrev pub digitChar : ℕ → ℕ
 digitChar n = cond (ltb n 10) (48 + n) (55 + n)
 
@@ -39,6 +42,10 @@ digitChar n = cond (ltb n 10) (48 + n) (55 + n)
 unfoldable pub hexOf : ℕ → ℕ → List ℕ
 hexOf zero n = []
 hexOf (suc d) n = hexOf d (n / 16) ++ (digitChar (n % 16) ∷ [])
+
+-- four fields of a state, 16 digits each
+abbrev pub fourOf : ℕ → ℕ → ℕ → ℕ → List ℕ
+fourOf a b c d = hexOf 16 a ++ hexOf 16 b ++ hexOf 16 c ++ hexOf 16 d
 
 abbrev pub newline : List ℕ
 newline = 10 ∷ []

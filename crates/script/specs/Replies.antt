@@ -31,7 +31,7 @@ use Rattle.tier.specs.declared.KindRead.{KindRead}
 use Rattle.tier.specs.declared.KindRead.the-variants.{Kind, Unknown}
 use Rattle.script.specs.Hex.{allDigits, byteAt, wideAt, longAt}
 use Rattle.script.specs.declared.Reply.{Reply}
-use Rattle.script.specs.declared.Reply.the-variants.{Bad, Word, Levels, State, Duties}
+use Rattle.script.specs.declared.Reply.the-variants.{Bad, Word, Levels, State, Duties, Source, Voice}
 
 -- fields with a sign, in two's complement
 abbrev pub sampleAt : List ℕ → ℕ → ℤ
@@ -139,6 +139,20 @@ unfoldable pub dutiesReply : List ℕ → Reply
 dutiesReply l =
     cond (ltb (length l) 16) Bad (cond (eqb (length l % 2) 1) Bad (cond (leb (byteAt l 1) 2) Duties Bad))
 
+-- "kind (1: 1 tone, 2 PolyBLEP, 3 FM)": how many waveforms it has; of any other kind none is allowed
+abbrev pub waveformsOf : ℕ → ℕ
+waveformsOf kind = cond (eqb kind 1) 3 (cond (eqb kind 2) 4 (cond (eqb kind 3) 1 0))
+
+-- 60, source alone: kind (1), Hz (4), ms or ratio (2), waveform (1), rate (4), requests not printed (3), "requests printed (2, at most 16,000)"
+unfoldable pub sourceReply : List ℕ → Reply
+sourceReply l = cond (ltb (byteAt l 8) (waveformsOf (byteAt l 1)) && leb (wideAt l 16) 16000) Source Bad
+
+-- 61, voice alone: as 60 up to the rate; E (7), gain (1), pan (1), "stereo (1: 0 or 1)", frames not printed (3), "release (1: 0 or
+-- 1), frames printed (2, at most 16,000)"
+unfoldable pub voiceReply : List ℕ → Reply
+voiceReply l =
+    cond (ltb (byteAt l 8) (waveformsOf (byteAt l 1)) && (leb (byteAt l 22) 1 && (leb (byteAt l 26) 1 && leb (wideAt l 27) 16000))) Voice Bad
+
 -- the records by their code, each with its length; any other code is bad
 abbrev pub replyFor : ℕ → List ℕ → Reply
 replyFor code l =
@@ -162,7 +176,9 @@ replyFor code l =
     (cond (eqb code 0x57) (dutiesReply l)
     (cond (eqb code 0x58) (sized n 15 State)
     (cond (eqb code 0x59) (sized n 1 (conversion32Reply l))
-    Bad))))))))))))))))))
+    (cond (eqb code 0x60) (sized n 17 (sourceReply l))
+    (cond (eqb code 0x61) (sized n 28 (voiceReply l))
+    Bad))))))))))))))))))))
 
 -- "No good line is longer than 8,194 digits"; the first byte is the code
 unfoldable pub replyOf : List ℕ → Reply

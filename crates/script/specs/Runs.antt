@@ -23,7 +23,7 @@ use Rattle.output.specs.declared.Mapped.{Mapped}
 use Rattle.output.specs.declared.PeriodRead.{PeriodRead}
 use Rattle.output.specs.declared.PeriodRead.the-variants as P
 use Rattle.output.specs.declared.PwmMapper.{PwmMapper}
-use Rattle.script.specs.Hex.{byteAt, wideAt, longAt, hexOf, newline}
+use Rattle.script.specs.Hex.{byteAt, wideAt, longAt, hexOf, fourOf, newline}
 use Rattle.script.specs.Replies.{sampleAt, sumAt}
 
 -- what n steps make of s
@@ -40,13 +40,14 @@ texts step text (suc n) s = text (step s) ++ texts step text n (step s)
 abbrev pub numberLine : ℕ → List ℕ
 numberLine n = hexOf 2 n ++ newline
 
--- "E": attack ms (2), decay ms (2), sustain (1), release ms (2); then the rate (4)
-abbrev pub specAt : List ℕ → AdsrSpec
-specAt l =
-    record { «attack_ms» = wideAt l 1; «decay_ms» = wideAt l 3; «sustain_q8» = byteAt l 5; «release_ms» = wideAt l 6 }
+-- "E": attack ms (2), decay ms (2), sustain (1), release ms (2), from byte k on
+abbrev pub specAt : List ℕ → ℕ → AdsrSpec
+specAt l k =
+    record { «attack_ms» = wideAt l k; «decay_ms» = wideAt l (k + 2); «sustain_q8» = byteAt l (k + 4); «release_ms» = wideAt l (k + 5) }
 
+-- E, then the rate (4)
 abbrev pub openedAt : List ℕ → Opened
-openedAt l = opened (specAt l) (longAt l 8)
+openedAt l = opened (specAt l 1) (longAt l 8)
 
 abbrev pub levelText : Envelope → List ℕ
 levelText e = hexOf 2 (e .adsr .«level_q8»)
@@ -74,23 +75,16 @@ phaseNumber A.Release = 3
 phaseNumber A.Idle = 4
 
 -- "attack, decay, sustain, release, phase, level, samples in phase, phase length, rate", 16 digits each
-abbrev pub timesText : AdsrSpec → List ℕ
-timesText s = hexOf 16 (s .«attack_ms») ++ hexOf 16 (s .«decay_ms») ++ hexOf 16 (s .«sustain_q8») ++ hexOf 16 (s .«release_ms»)
-
-abbrev pub stateLine : Adsr → List ℕ
-stateLine a =
-    timesText (a .spec)
-    ++ hexOf 16 (phaseNumber (a .phase))
-    ++ hexOf 16 (a .«level_q8»)
-    ++ hexOf 16 (a .«samples_in_phase»)
-    ++ hexOf 16 (a .«phase_length_samples»)
+abbrev pub adsrText : Adsr → List ℕ
+adsrText a =
+    fourOf (a .spec .«attack_ms») (a .spec .«decay_ms») (a .spec .«sustain_q8») (a .spec .«release_ms»)
+    ++ fourOf (phaseNumber (a .phase)) (a .«level_q8») (a .«samples_in_phase») (a .«phase_length_samples»)
     ++ hexOf 16 (a .«sample_rate_hz»)
-    ++ newline
 
 -- 58, envelope state: "number; if 00, a second line: the state after trigger, the ticks, release and the ticks after"
 abbrev pub stateOf : ℕ → ℕ → Opened → List ℕ
 stateOf held left (O.Refused e) = numberLine (numberOf e)
-stateOf held left (O.Envelope e) = numberLine 0 ++ stateLine (stepped tickedEnvelope left (letGo held e) .adsr)
+stateOf held left (O.Envelope e) = numberLine 0 ++ adsrText (stepped tickedEnvelope left (letGo held e) .adsr) ++ newline
 
 unfoldable pub stateText : List ℕ → List ℕ
 stateText l = stateOf (wideAt l 12) (wideAt l 14) (openedAt l)

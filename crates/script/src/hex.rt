@@ -5,7 +5,7 @@ ghost use Prim.Native.Nat.{_+_, _*_, _≤_, _<_};
 ghost use lib.ListN.{getD};
 ghost use mir.Syntax.{w8, w16, w32};
 ghost use mir.Val.{toZ, ofZ};
-ghost use Rattle.script.specs.Hex.{isDigit, allDigits, digitOf, byteAt, wideAt, longAt, digitChar, hexOf, newline, Wrote};
+ghost use Rattle.script.specs.Hex.{isDigit, allDigits, digitOf, byteAt, wideAt, longAt, threeAt, digitChar, hexOf, fourOf, newline, Wrote};
 
 fn is_digit(c: u8) -> bool
     ensures { λ r. ⌜ r ≡ isDigit c ⌝ }
@@ -47,7 +47,7 @@ fn at(l: &[u8], i: usize) -> u8
     if i < l.len() { l[i] } else { 0 }
 }
 
-// The fields of one byte, two and four, from byte k on. No line has 65,536 bytes.
+// The fields of one byte, two, four and three, from byte k on. No line has 65,536 bytes.
 pub fn byte_at(l: &[u8], k: usize) -> u8
     requires { ⌜ k < 65536 ⌝ }
     ensures { λ r. ⌜ r ≡ byteAt (now (l .entry)) k ⌝ }
@@ -67,6 +67,13 @@ pub fn long_at(l: &[u8], k: usize) -> u32
     ensures { λ r. ⌜ r ≡ longAt (now (l .entry)) k ⌝ }
 {
     65536 * (wide_at(l, k) as u32) + (wide_at(l, k + 2) as u32)
+}
+
+pub fn three_at(l: &[u8], k: usize) -> u32
+    requires { ⌜ k < 65533 ⌝ }
+    ensures { λ r. ⌜ r ≡ threeAt (now (l .entry)) k ⌝ }
+{
+    256 * (wide_at(l, k) as u32) + (byte_at(l, k + 2) as u32)
 }
 
 // Two's complement, read and written.
@@ -141,6 +148,16 @@ pub fn put(out: &mut [u8; 262144], at: usize, value: u64, digits: u8) -> usize
         rest = rest / 16;
     }
     end
+}
+
+pub fn put_four(out: &mut [u8; 262144], at: usize, a: u64, b: u64, c: u64, d: u64) -> usize
+    requires { ⌜ at ≤ 262080 ⌝ }
+    ensures { λ r. ⌜ Wrote (now (out .entry)) at (fourOf a b c d) (now (out .exit)) r × (r ≡ at + 64) ⌝ }
+{
+    let n1 = put(out, at, a, 16);
+    let n2 = put(out, n1, b, 16);
+    let n3 = put(out, n2, c, 16);
+    put(out, n3, d, 16)
 }
 
 pub fn end_line(out: &mut [u8; 262144], at: usize) -> usize

@@ -1,4 +1,4 @@
-// Answers to a script's lines: records 40 to 48 of the replay format and our own 50 to 59.
+// Answers to a script's lines: records 40 to 48 of the replay format and our own 50 to 61.
 ghost use mathlib.Core.Path.{_≡_};
 ghost use Rattle.script.specs.Replies.{sized, dutiesReply, replyFor, replyOf};
 ghost use Rattle.script.specs.Answers.{Answers};
@@ -10,6 +10,9 @@ mod hex;
 mod leaves;
 mod outputs;
 mod runs;
+mod sounds;
+mod states;
+mod voices;
 
 // What is answered to a line: that it is bad, a number in so many digits, or one of the runs.
 pub enum Reply {
@@ -18,6 +21,8 @@ pub enum Reply {
     Levels,
     State,
     Duties,
+    Source,
+    Voice,
 }
 
 // How many bytes the answer has, and whether the run goes on.
@@ -80,6 +85,8 @@ fn reply_for(code: u8, l: &[u8]) -> Reply
         0x57 => duties_reply(l),
         0x58 => sized(n, 15, Reply::State),
         0x59 => sized(n, 1, outputs::conversion_to_i32(l)),
+        0x60 => sized(n, 17, sounds::source_reply(l)),
+        0x61 => sized(n, 28, voices::voice_reply(l)),
         _ => Reply::Bad,
     }
 }
@@ -125,6 +132,14 @@ pub fn answer(line: &[u8], out: &mut [u8; 262144]) -> Answered
         }
         Reply::Duties => {
             let len = runs::duties(line, out);
+            Answered { len, more: true }
+        }
+        Reply::Source => {
+            let len = sounds::source(line, out);
+            Answered { len, more: true }
+        }
+        Reply::Voice => {
+            let len = voices::voice(line, out);
             Answered { len, more: true }
         }
     }

@@ -8,11 +8,12 @@ ghost use Rattle.output.specs.declared.PeriodRead.the-variants as P;
 ghost use Rattle.output.specs.Duty.{ValidPeriod, ValidMapper, ValidMapped};
 ghost use Rattle.laws.specs.Made.{Made};
 ghost use Rattle.script.specs.Hex.{wideAt, longAt, Wrote};
-ghost use Rattle.script.specs.Runs.{stepped, texts, specAt, levelText, levelsOf, levelsText, phaseNumber, timesText, stateLine, stateOf, stateText, modeOf, mapperAt, mapStep, dutyText, mapperLine, dutiesOf, dutiesText};
+ghost use Rattle.script.specs.Runs.{stepped, texts, specAt, levelText, levelsOf, levelsText, phaseNumber, adsrText, stateOf, stateText, modeOf, mapperAt, mapStep, dutyText, mapperLine, dutiesOf, dutiesText};
 use crate::hex::byte_at;
 use crate::hex::end_line;
 use crate::hex::long_at;
 use crate::hex::put;
+use crate::hex::put_four;
 use crate::hex::put_line;
 use crate::hex::signed8;
 use crate::hex::signed32;
@@ -36,21 +37,23 @@ struct Ticked {
     next: usize,
 }
 
-fn spec_at(l: &[u8]) -> AdsrSpec
-    ensures { λ r. ⌜ r ≡ specAt (now (l .entry)) ⌝ }
+// An envelope's times, from byte k on.
+pub fn spec_at(l: &[u8], k: usize) -> AdsrSpec
+    requires { ⌜ k ≤ 60000 ⌝ }
+    ensures { λ r. ⌜ r ≡ specAt (now (l .entry)) k ⌝ }
 {
     AdsrSpec {
-        attack_ms: wide_at(l, 1),
-        decay_ms: wide_at(l, 3),
-        sustain_q8: byte_at(l, 5),
-        release_ms: wide_at(l, 6),
+        attack_ms: wide_at(l, k),
+        decay_ms: wide_at(l, k + 2),
+        sustain_q8: byte_at(l, k + 4),
+        release_ms: wide_at(l, k + 5),
     }
 }
 
 fn open_at(l: &[u8]) -> Opened
-    ensures { λ r. ⌜ OpenedAs (specAt (now (l .entry))) (longAt (now (l .entry)) 8) r ⌝ }
+    ensures { λ r. ⌜ OpenedAs (specAt (now (l .entry)) 1) (longAt (now (l .entry)) 8) r ⌝ }
 {
-    let spec = spec_at(l);
+    let spec = spec_at(l, 1);
     Envelope::open(spec, long_at(l, 8))
 }
 
@@ -119,38 +122,40 @@ fn phase_number(p: AdsrPhase) -> u64
     }
 }
 
-// The state's fields, the first at place 3.
-fn put_times(out: &mut [u8; 262144], s: AdsrSpec) -> usize
-    ensures { λ r. ⌜ Wrote (now (out .entry)) 3 (timesText s) (now (out .exit)) r × (r ≡ 67) ⌝ }
-{
-    let n1 = put(out, 3, s.attack_ms as u64, 16);
-    let n2 = put(out, n1, s.decay_ms as u64, 16);
-    let n3 = put(out, n2, s.sustain_q8 as u64, 16);
-    put(out, n3, s.release_ms as u64, 16)
-}
-
-fn put_state(out: &mut [u8; 262144], a: Adsr) -> usize
-    ensures { λ r. ⌜ Wrote (now (out .entry)) 3 (stateLine a) (now (out .exit)) r ⌝ }
+pub fn put_adsr(out: &mut [u8; 262144], at: usize, a: Adsr) -> usize
+    requires { ⌜ at ≤ 200000 ⌝ }
+    ensures { λ r. ⌜ Wrote (now (out .entry)) at (adsrText a) (now (out .exit)) r × (r ≡ at + 144) ⌝ }
 {
     let s = a.spec;
     let p = a.phase;
-    let n4 = put_times(out, s);
-    let n5 = put(out, n4, phase_number(p), 16);
-    let n6 = put(out, n5, a.level_q8 as u64, 16);
-    let n7 = put(out, n6, a.samples_in_phase as u64, 16);
-    let n8 = put(out, n7, a.phase_length_samples as u64, 16);
-    let n9 = put(out, n8, a.sample_rate_hz as u64, 16);
-    end_line(out, n9)
+    let times = put_four(
+        out,
+        at,
+        s.attack_ms as u64,
+        s.decay_ms as u64,
+        s.sustain_q8 as u64,
+        s.release_ms as u64,
+    );
+    let state = put_four(
+        out,
+        times,
+        phase_number(p),
+        a.level_q8 as u64,
+        a.samples_in_phase as u64,
+        a.phase_length_samples as u64,
+    );
+    put(out, state, a.sample_rate_hz as u64, 16)
 }
 
 fn run_state(l: &[u8], e: Envelope, out: &mut [u8; 262144]) -> usize
     requires { ⌜ ValidEnvelope e ⌝ }
     ensures { λ r. ⌜ Wrote (now (out .entry)) 0 (stateOf (wideAt (now (l .entry)) 12) (wideAt (now (l .entry)) 14) (O.Envelope e)) (now (out .exit)) r ⌝ }
 {
-    put_line(out, 0, 2);
+    let n = put_line(out, 0, 2);
     let held = ticked_by(e.trigger(), wide_at(l, 12));
     let left = ticked_by(held.release(), wide_at(l, 14));
-    put_state(out, left.state())
+    let end = put_adsr(out, n, left.state());
+    end_line(out, end)
 }
 
 pub fn state(l: &[u8], out: &mut [u8; 262144]) -> usize

@@ -47,9 +47,9 @@ fn align<'a>(
     })
 }
 
-/// The envelope records and the duty mapper, where they are not refused.
+/// The envelope records, the duty mapper, a source or a voice alone, where they are not refused.
 fn has_second_line(record: &[u8], first: &[u8]) -> bool {
-    let codes: [&[u8]; 3] = [b"48", b"57", b"58"];
+    let codes: [&[u8]; 5] = [b"48", b"57", b"58", b"60", b"61"];
     first == b"00" && codes.iter().any(|code| record.starts_with(code))
 }
 

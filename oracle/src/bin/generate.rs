@@ -14,6 +14,8 @@ mod recorded;
 mod script;
 #[path = "generate/sets.rs"]
 mod sets;
+#[path = "generate/sources.rs"]
+mod sources;
 
 use draw::Draw;
 use script::Script;

@@ -1,12 +1,15 @@
 //! Reads a script on standard input and prints the Rust original's answers: records 40 to 48 of the replay format and our
-//! own 50 to 59 (docs/REPLAY.md). A bad line prints FFFF and ends the run.
+//! own 50 to 61 (docs/REPLAY.md). A bad line prints FFFF and ends the run.
 
 use oracle::Peek;
 use oracle::config::crossfade_step_q8;
 use oracle::envelope::{Adsr, AdsrSpec};
 use oracle::fixed;
 use oracle::output::{self, DutyMode, PwmMapper, SigmaDelta};
+use oracle::source::VoiceSource;
+use oracle::synth::{PolyBlepWaveform, Waveform};
 use oracle::tier::EffectKind;
+use oracle::voice::{Voice, peek_source};
 use std::io::{self, BufRead, BufReader, Read, Write};
 
 /// No good line has more digits.
@@ -22,6 +25,8 @@ const BAD_SUM: i64 = 11;
 const HIGHEST_RATE: u32 = 65_537;
 const LEAST_PERIOD: u16 = 2;
 const SUMS: std::ops::RangeInclusive<i32> = -2_048..=2_032;
+/// The most requests or frames that one record prints.
+const MOST_PRINTED: u16 = 16_000;
 
 /// A line that is no record, or has a field that its record does not allow.
 struct Bad;
@@ -30,7 +35,7 @@ type Answered = Result<(), Bad>;
 type Answer = fn(&mut Fields, &mut Answers) -> Answered;
 
 /// Code, least and greatest number of bytes after it, and what answers it.
-const RECORDS: [(u8, usize, usize, Answer); 19] = [
+const RECORDS: [(u8, usize, usize, Answer); 21] = [
     (0x40, 2, 2, gain),
     (0x41, 3, 3, lerp),
     (0x42, 4, 4, limiter),
@@ -50,6 +55,8 @@ const RECORDS: [(u8, usize, usize, Answer); 19] = [
     (0x57, 7, 4_096, duty_mapper),
     (0x58, 15, 15, envelope_state),
     (0x59, 1, 1, conversion_to_i32),
+    (0x60, 17, 17, source_alone),
+    (0x61, 28, 28, voice_alone),
 ];
 
 fn main() -> io::Result<()> {
@@ -136,6 +143,11 @@ impl Fields<'_> {
         u16::from_be_bytes(self.take())
     }
 
+    fn u24(&mut self) -> u32 {
+        let [a, b, c] = self.take();
+        u32::from_be_bytes([0, a, b, c])
+    }
+
     fn u32(&mut self) -> u32 {
         u32::from_be_bytes(self.take())
     }
@@ -150,6 +162,14 @@ impl Fields<'_> {
             decay_ms: self.u16(),
             sustain_q8: self.u8(),
             release_ms: self.u16(),
+        }
+    }
+
+    fn flag(&mut self) -> Result<bool, Bad> {
+        match self.u8() {
+            0 => Ok(false),
+            1 => Ok(true),
+            _ => Err(Bad),
         }
     }
 
@@ -178,6 +198,28 @@ impl Answers {
 
     fn end_line(&mut self) {
         self.0.push(b'\n');
+    }
+
+    /// 00 and the sample, or 0100 where none is given.
+    fn given(&mut self, sample: Option<i8>) {
+        self.hex(sample.map_or(0x100, |sample| sample as u8 as i64), 4);
+    }
+
+    /// A frame of a voice, on one side or on two.
+    fn frame(&mut self, voice: &mut Voice, stereo: bool) {
+        if !stereo {
+            return self.given(voice.next_sample());
+        }
+        let pair = voice.next_stereo_sample();
+        self.given(pair.map(|(left, _)| left));
+        self.hex(pair.map_or(0, |(_, right)| right as u8 as i64), 2);
+    }
+
+    /// Fields of a state, 16 digits each.
+    fn fields(&mut self, state: &[i64]) {
+        for field in state {
+            self.hex(*field, 16);
+        }
     }
 
     /// Ends a line with a value. It answers as a record does, so that a record can end with it.
@@ -260,9 +302,7 @@ fn envelope_levels(fields: &mut Fields, answers: &mut Answers) -> Answered {
 fn envelope_state(fields: &mut Fields, answers: &mut Answers) -> Answered {
     if let Some(mut envelope) = open_envelope(fields, answers)? {
         run_envelope(&mut envelope, fields, |_| ());
-        for field in state_of(&envelope) {
-            answers.hex(field, 16);
-        }
+        answers.fields(&state_of(&envelope));
         answers.end_line();
     }
     Ok(())
@@ -358,4 +398,111 @@ fn duty_mapper(fields: &mut Fields, answers: &mut Answers) -> Answered {
     }
     answers.end_line();
     Ok(())
+}
+
+/// What a source is started with: its kind, Hz, ms or ratio, and waveform, which is 0 for FM.
+struct Start {
+    kind: u8,
+    hz: u32,
+    parameter: u16,
+    waveform: u8,
+}
+
+impl Start {
+    fn read(fields: &mut Fields) -> Result<Self, Bad> {
+        let start = Self {
+            kind: fields.u8(),
+            hz: fields.u32(),
+            parameter: fields.u16(),
+            waveform: fields.u8(),
+        };
+        let waveforms = match start.kind {
+            1 => 3,
+            2 => 4,
+            3 => 1,
+            _ => return Err(Bad),
+        };
+        if start.waveform < waveforms {
+            Ok(start)
+        } else {
+            Err(Bad)
+        }
+    }
+
+    fn put_in(&self, source: &mut VoiceSource, rate: u32) {
+        use PolyBlepWaveform::{Sawtooth, Sine, Square, Triangle};
+        match self.kind {
+            1 => {
+                let waveforms = [Waveform::Square, Waveform::Sine, Waveform::Triangle];
+                let waveform = waveforms[self.waveform as usize];
+                source.start_tone(self.hz, self.parameter, waveform, rate)
+            }
+            2 => {
+                let waveform = [Sine, Sawtooth, Square, Triangle][self.waveform as usize];
+                source.start_polyblep(self.hz, self.parameter, waveform, rate)
+            }
+            _ => source.start_fm(self.hz, self.parameter, rate),
+        }
+    }
+}
+
+/// How many requests or frames are not printed, and how many are.
+fn read_counts(skipped: u32, printed: u16) -> Result<(u32, u16), Bad> {
+    if printed > MOST_PRINTED {
+        Err(Bad)
+    } else {
+        Ok((skipped, printed))
+    }
+}
+
+fn source_alone(fields: &mut Fields, answers: &mut Answers) -> Answered {
+    let start = Start::read(fields)?;
+    let rate = fields.u32();
+    let (skipped, printed) = read_counts(fields.u24(), fields.u16())?;
+    if rate > HIGHEST_RATE {
+        return answers.line(BAD_RATE, 2);
+    }
+    answers.line(0, 2)?;
+    let mut source = VoiceSource::idle();
+    start.put_in(&mut source, rate);
+    for _ in 0..skipped {
+        source.next_raw_sample();
+    }
+    for _ in 0..printed {
+        answers.given(source.next_raw_sample());
+    }
+    let mut state = Vec::new();
+    peek_source(&source, &mut state);
+    answers.fields(&state);
+    answers.line(source.carrier_hz(rate).unwrap_or(0) as i64, 8)
+}
+
+fn voice_alone(fields: &mut Fields, answers: &mut Answers) -> Answered {
+    let start = Start::read(fields)?;
+    let (rate, spec) = (fields.u32(), fields.envelope());
+    let (gain, pan, stereo) = (fields.u8(), fields.u8(), fields.flag()?);
+    let (skipped, release, printed) = (fields.u24(), fields.flag()?, fields.u16());
+    let (skipped, printed) = read_counts(skipped, printed)?;
+    if rate > HIGHEST_RATE {
+        return answers.line(BAD_RATE, 2);
+    }
+    answers.line(0, 2)?;
+    let mut voice = Voice::silent(rate);
+    start.put_in(&mut voice.source, rate);
+    voice.set_gain_q8(gain);
+    voice.set_pan_q8(pan);
+    voice.trigger_adsr(spec);
+    for _ in 0..skipped {
+        voice.tick_envelope();
+        voice.next_sample();
+    }
+    if release {
+        voice.release();
+    }
+    for _ in 0..printed {
+        voice.tick_envelope();
+        answers.frame(&mut voice, stereo);
+    }
+    answers.fields(&state_of(&voice));
+    answers.line(voice.is_audible() as i64, 2)
 }

@@ -2,13 +2,14 @@
 
 use crate::draw::Draw;
 use crate::script::{Envelope, Line, i8, i32, mapper, record, u8, u16, u32};
+use crate::sources;
 
 type Drawn = fn(&mut Draw) -> Line;
 
 pub const MOST_SAMPLES: u32 = 4_089;
 
 /// Every record that is read today.
-pub const RECORDS: [(u8, Drawn); 19] = [
+pub const RECORDS: [(u8, Drawn); 21] = [
     (0x40, |d| record(0x40, &[i8(d.i8()), u8(d.u8())])),
     (0x41, |d| {
         record(0x41, &[i8(d.i8()), i8(d.i8()), u8(d.u8())])
@@ -32,6 +33,8 @@ pub const RECORDS: [(u8, Drawn); 19] = [
     (0x57, duty_mapper),
     (0x58, |d| envelope(d).record(0x58)),
     (0x59, |d| record(0x59, &[i8(d.i8())])),
+    (0x60, sources::any_source),
+    (0x61, sources::any_voice),
 ];
 
 pub fn any(draw: &mut Draw) -> Line {

@@ -6,6 +6,7 @@ use crate::edges::{BYTES, HALVES, INTEGRATORS, RATES, SAMPLES, WORDS};
 use crate::random;
 use crate::script::{Script, i8, mapper, u8, u16, u32};
 use crate::sets;
+use crate::sources;
 
 pub fn print(script: &mut Script) {
     for code in [0x45, 0x43, 0x56, 0x59, 0x55, 0x51] {
@@ -21,6 +22,7 @@ pub fn print(script: &mut Script) {
     phases(script);
     mappers(script);
     envelopes(script);
+    sources::recorded(script);
     let mut draw = Draw::modest(1);
     for _ in 0..5_000 {
         script.add(&random::any(&mut draw));

@@ -20,6 +20,11 @@ pub fn u16(value: u16) -> Field {
     (value as u32, 2)
 }
 
+/// The low three bytes.
+pub fn u24(value: u32) -> Field {
+    (value, 3)
+}
+
 pub fn u32(value: u32) -> Field {
     (value, 4)
 }

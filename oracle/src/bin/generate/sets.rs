@@ -3,6 +3,7 @@
 use crate::edges::{self, HALVES, RATES, SAMPLES, WORDS};
 use crate::random::MOST_SAMPLES;
 use crate::script::{Envelope, Script, i8, i32, mapper as mapper_record, u8, u16, u32};
+use crate::sources;
 use oracle::fixed::db_to_q8;
 
 /// How many floats the db set spreads over all bit patterns if not told.
@@ -10,7 +11,7 @@ pub const FLOATS: u32 = 2_000_000;
 
 type Print = fn(&mut Script, u32);
 
-pub const SETS: [(&str, Print); 15] = [
+pub const SETS: [(&str, Print); 17] = [
     ("gain", |script, _| gain(script)),
     ("sine", |script, _| bytes(script, 0x45)),
     ("pan", |script, _| bytes(script, 0x43)),
@@ -29,6 +30,8 @@ pub const SETS: [(&str, Print); 15] = [
     ("clamp", |script, _| clamp(script)),
     ("mapper", |script, _| mapper(script)),
     ("envelope", |script, _| envelope(script)),
+    ("sources", |script, _| sources::sources(script)),
+    ("voices", |script, _| sources::voices(script)),
 ];
 
 /// Nothing where there is no set of that name.

@@ -1,20 +1,30 @@
--- `script::runs::run_state` meets its contract: two texts, the second of the envelope that both groups of ticks left.
+-- `script::runs::run_state` meets its contract: three texts, the second of the envelope that both groups of ticks left.
 use borrow.Author.Needs.{needs}
+use native.Mathlib.Omega.{arith}
 use mathlib.Core.Path.{sym}
 use Rattle.script.proofs.Texts.{then}
 use Rattle.script.proofs.runs.run_state.Statement.{statement}
 use Rattle.script.proofs.runs.run_state.Tie as tie
 
+end-line-requires : tie.Need-end-line-requires
+end-line-requires c κs =
+    let b1 = c .before in
+    let b2 = b1 .before .before .before .before .before .before .before .before .before in
+    omega (arith, b1 .put-adsr .ensures .1, b2 .put-line .ensures .1)
+
 returns : tie.Need-returns
 returns c =
-    let s = c .before in
-    let t2 = s .before .before in
-    let r = t2 .before .before in
-    let t1 = r .before in
-    let g = t1 .before .before in
-    let p = g .before .put-line .ensures in
-    rw (sym (t2 .before .wide-at2 .ensures), sym (t1 .before .wide-at .ensures), sym (g .trigger .ensures .same), sym (t1 .ticked-by .ensures .same), sym (r .release .ensures .same), sym (t2 .ticked-by2 .ensures .same), sym (s .state .ensures))
-    (then (rw (p .1) at (p .0)) (c .put-state .ensures))
+    let b1 = c .before .before in
+    let b2 = b1 .before in
+    let b3 = b2 .before .before in
+    let b4 = b3 .before in
+    let b5 = b4 .before in
+    let b6 = b5 .before in
+    let b7 = b6 .before in
+    let b8 = b7 .before in
+    let b9 = b8 .before in
+    rw (sym (b4 .wide-at2 .ensures), sym (b7 .wide-at .ensures), sym (b8 .trigger .ensures .same), sym (b6 .ticked-by .ensures .same), sym (b5 .release .ensures .same), sym (b3 .ticked-by2 .ensures .same), sym (b2 .state .ensures))
+    (then (then (b9 .put-line .ensures .0) (b1 .put-adsr .ensures .0)) (c .end-line .ensures))
 
 pub run-state-spec : {M : Type 1} → statement M
 run-state-spec =
@@ -29,4 +39,5 @@ run-state-spec =
     (λ c κs. search needs)
     (λ c κs. search needs)
     (λ c κs. search needs)
+    end-line-requires
     returns)

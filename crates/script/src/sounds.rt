@@ -1,0 +1,184 @@
+// A source alone: how it starts, its requests, and what is printed of them.
+ghost use mathlib.Core.Path.{_≡_};
+ghost use Prim.Native.Nat.{_+_, _*_, _≤_, _<_, min};
+ghost use Rattle.laws.specs.Made.{Made};
+ghost use Rattle.voice.specs.Sources.{ValidSource, ValidStep};
+ghost use Rattle.script.specs.Hex.{wideAt, Wrote};
+ghost use Rattle.script.specs.Replies.{waveformsOf, sourceReply};
+ghost use Rattle.script.specs.Runs.{stepped, texts};
+ghost use Rattle.script.specs.Sounds.{toneWaveform, polyBlepWaveform, sourceAt, request, givenNumber, givenText, carrierNumber, sourceRun, sourceText};
+use crate::Reply;
+use crate::hex::byte_at;
+use crate::hex::end_line;
+use crate::hex::long_at;
+use crate::hex::put;
+use crate::hex::put_line;
+use crate::hex::three_at;
+use crate::hex::unsigned8;
+use crate::hex::wide_at;
+use crate::states::put_source;
+use fixed::Given;
+use polyblep::PolyBlepWaveform;
+use tone::Waveform;
+use voice::Carrier;
+use voice::SourceStep;
+use voice::VoiceSource;
+
+// A source after some requests, with what the last one gave, and the place after their texts.
+struct Requested {
+    last: SourceStep,
+    next: usize,
+}
+
+pub fn waveforms(kind: u8) -> u8
+    ensures { λ r. ⌜ r ≡ waveformsOf kind ⌝ }
+{
+    match kind {
+        1 => 3,
+        2 => 4,
+        3 => 1,
+        _ => 0,
+    }
+}
+
+pub fn source_reply(l: &[u8]) -> Reply
+    ensures { λ r. ⌜ r ≡ sourceReply (now (l .entry)) ⌝ }
+{
+    let count = waveforms(byte_at(l, 1));
+    if byte_at(l, 8) >= count {
+        return Reply::Bad;
+    }
+    if wide_at(l, 16) <= 16000 {
+        Reply::Source
+    } else {
+        Reply::Bad
+    }
+}
+
+fn tone_waveform(n: u8) -> Waveform
+    ensures { λ r. ⌜ r ≡ toneWaveform n ⌝ }
+{
+    match n {
+        0 => Waveform::Square,
+        1 => Waveform::Sine,
+        _ => Waveform::Triangle,
+    }
+}
+
+fn polyblep_waveform(n: u8) -> PolyBlepWaveform
+    ensures { λ r. ⌜ r ≡ polyBlepWaveform n ⌝ }
+{
+    match n {
+        0 => PolyBlepWaveform::Sine,
+        1 => PolyBlepWaveform::Sawtooth,
+        2 => PolyBlepWaveform::Square,
+        _ => PolyBlepWaveform::Triangle,
+    }
+}
+
+pub fn source_at(l: &[u8]) -> VoiceSource
+    ensures { λ r. ⌜ Made ValidSource (sourceAt (now (l .entry))) r ⌝ }
+{
+    let kind = byte_at(l, 1);
+    let hz = long_at(l, 2);
+    let parameter = wide_at(l, 6);
+    let waveform = byte_at(l, 8);
+    let rate = long_at(l, 9);
+    match kind {
+        1 => VoiceSource::start_tone(hz, parameter, tone_waveform(waveform), rate),
+        2 => VoiceSource::start_polyblep(hz, parameter, polyblep_waveform(waveform), rate),
+        _ => VoiceSource::start_fm(hz, parameter, rate),
+    }
+}
+
+// A record that prints more is bad; where it is not, this is the field.
+pub fn printed_at(l: &[u8], k: usize) -> u16
+    requires { ⌜ k < 65535 ⌝ }
+    ensures { λ r. ⌜ (r ≡ min (wideAt (now (l .entry)) k) 16000) × (r ≤ 16000) ⌝ }
+{
+    let n = wide_at(l, k);
+    if n <= 16000 { n } else { 16000 }
+}
+
+pub fn given_number(g: Given) -> u64
+    ensures { λ r. ⌜ r ≡ givenNumber g ⌝ }
+{
+    match g {
+        Given::Sample(s) => unsigned8(s) as u64,
+        Given::None => 256,
+    }
+}
+
+fn carrier_number(c: Carrier) -> u32
+    ensures { λ r. ⌜ r ≡ carrierNumber c ⌝ }
+{
+    match c {
+        Carrier::Hz(hz) => hz,
+        Carrier::None => 0,
+    }
+}
+
+// Requests that are not printed.
+fn skipped(first: SourceStep, count: u32) -> SourceStep
+    requires { ⌜ ValidStep first ⌝ }
+    ensures { λ r. ⌜ Made ValidStep (stepped request count first) r ⌝ }
+{
+    let mut last = first;
+    let mut left = count;
+    while left > 0 {
+        let s = last.source;
+        last = s.next_raw_sample();
+        left -= 1;
+    }
+    last
+}
+
+// Requests, each with what it gave.
+fn requests(out: &mut [u8; 262144], at: usize, first: SourceStep, count: u16) -> Requested
+    requires { ⌜ ValidStep first ⌝ }
+    requires { ⌜ at + 4 * count ≤ 262144 ⌝ }
+    ensures { λ r. ⌜ Wrote (now (out .entry)) at (texts request givenText count first) (now (out .exit)) (r .next) ⌝ }
+    ensures { λ r. ⌜ r .next ≡ at + 4 * count ⌝ }
+    ensures { λ r. ⌜ Made ValidStep (stepped request count first) (r .last) ⌝ }
+{
+    let mut last = first;
+    let mut next = at;
+    let mut left = count;
+    while left > 0 {
+        let source = last.source;
+        last = source.next_raw_sample();
+        let g = last.given;
+        next = put(out, next, given_number(g), 4);
+        left -= 1;
+    }
+    Requested { last, next }
+}
+
+fn run_source(l: &[u8], out: &mut [u8; 262144]) -> usize
+    ensures { λ r. ⌜ Wrote (now (out .entry)) 0 (sourceRun (now (l .entry))) (now (out .exit)) r ⌝ }
+{
+    let n = put_line(out, 0, 2);
+    let source = source_at(l);
+    let first = SourceStep {
+        source,
+        given: Given::None,
+    };
+    let from = skipped(first, three_at(l, 13));
+    let to = requests(out, n, from, printed_at(l, 16));
+    let last = to.last;
+    let s = last.source;
+    let state = put_source(out, to.next, s);
+    let carrier = s.carrier_hz(long_at(l, 9));
+    let end = put(out, state, carrier_number(carrier) as u64, 8);
+    end_line(out, end)
+}
+
+pub fn source(l: &[u8], out: &mut [u8; 262144]) -> usize
+    ensures { λ r. ⌜ Wrote (now (out .entry)) 0 (sourceText (now (l .entry))) (now (out .exit)) r ⌝ }
+{
+    if long_at(l, 9) <= 65537 {
+        run_source(l, out)
+    } else {
+        put_line(out, 2, 2)
+    }
+}

@@ -1,0 +1,241 @@
+// A voice alone: how it starts, its frames, and what is printed of them.
+ghost use mathlib.Core.Path.{_≡_};
+ghost use Prim.Native.Nat.{_+_, _*_, _≤_};
+ghost use Rattle.laws.specs.Made.{Made};
+ghost use Rattle.voice.specs.Voices.{Valid, ValidVoiceStep, ValidStereoStep};
+ghost use Rattle.script.specs.Hex.{longAt, Wrote};
+ghost use Rattle.script.specs.Replies.{voiceReply};
+ghost use Rattle.script.specs.Runs.{stepped, texts};
+ghost use Rattle.script.specs.Voices.{voiceAt, letGoIf, heldAt, monoFrame, stereoFrame, frameText, leftNumber, rightNumber, pairOf, pairText, framesText, framesLast, voiceFields, voiceRun, voiceText};
+use crate::Reply;
+use crate::hex::byte_at;
+use crate::hex::end_line;
+use crate::hex::long_at;
+use crate::hex::put;
+use crate::hex::put_four;
+use crate::hex::put_line;
+use crate::hex::three_at;
+use crate::hex::unsigned8;
+use crate::hex::wide_at;
+use crate::runs::put_adsr;
+use crate::runs::spec_at;
+use crate::sounds::given_number;
+use crate::sounds::printed_at;
+use crate::sounds::source_at;
+use crate::sounds::waveforms;
+use crate::states::flag_number;
+use crate::states::put_source;
+use fixed::Given;
+use voice::StereoGiven;
+use voice::StereoStep;
+use voice::Voice;
+use voice::VoiceStep;
+
+// A voice after some frames, and the place after their texts.
+struct Framed {
+    voice: Voice,
+    next: usize,
+}
+
+pub fn voice_reply(l: &[u8]) -> Reply
+    ensures { λ r. ⌜ r ≡ voiceReply (now (l .entry)) ⌝ }
+{
+    let count = waveforms(byte_at(l, 1));
+    if byte_at(l, 8) >= count {
+        return Reply::Bad;
+    }
+    if byte_at(l, 22) > 1 {
+        return Reply::Bad;
+    }
+    if byte_at(l, 26) > 1 {
+        return Reply::Bad;
+    }
+    if wide_at(l, 27) <= 16000 {
+        Reply::Voice
+    } else {
+        Reply::Bad
+    }
+}
+
+fn voice_at(l: &[u8]) -> Voice
+    requires { ⌜ longAt (now l) 9 ≤ 65537 ⌝ }
+    ensures { λ r. ⌜ Made Valid (voiceAt (now (l .entry))) r ⌝ }
+{
+    let silent = Voice::silent(long_at(l, 9));
+    let source = source_at(l);
+    let started = Voice { source, ..silent };
+    let gained = started.set_gain_q8(byte_at(l, 20));
+    let panned = gained.set_pan_q8(byte_at(l, 21));
+    panned.trigger_adsr(spec_at(l, 13))
+}
+
+// Frames that are not printed.
+fn passed(first: VoiceStep, count: u32) -> VoiceStep
+    requires { ⌜ ValidVoiceStep first ⌝ }
+    ensures { λ r. ⌜ Made ValidVoiceStep (stepped monoFrame count first) r ⌝ }
+{
+    let mut last = first;
+    let mut left = count;
+    while left > 0 {
+        let v = last.voice;
+        let t = v.tick_envelope();
+        last = t.next_sample();
+        left -= 1;
+    }
+    last
+}
+
+fn let_go(release: u8, v: Voice) -> Voice
+    requires { ⌜ Valid v ⌝ }
+    ensures { λ r. ⌜ Made Valid (letGoIf release v) r ⌝ }
+{
+    if release == 1 { v.release() } else { v }
+}
+
+// The voice before the frames that are printed.
+fn held_at(l: &[u8]) -> Voice
+    requires { ⌜ longAt (now l) 9 ≤ 65537 ⌝ }
+    ensures { λ r. ⌜ Made Valid (heldAt (now (l .entry))) r ⌝ }
+{
+    let voice = voice_at(l);
+    let first = VoiceStep {
+        voice,
+        given: Given::None,
+    };
+    let last = passed(first, three_at(l, 23));
+    let v = last.voice;
+    let_go(byte_at(l, 26), v)
+}
+
+fn frames(out: &mut [u8; 262144], at: usize, first: VoiceStep, count: u16) -> Framed
+    requires { ⌜ ValidVoiceStep first ⌝ }
+    requires { ⌜ at + 4 * count ≤ 262144 ⌝ }
+    ensures { λ r. ⌜ Wrote (now (out .entry)) at (texts monoFrame frameText count first) (now (out .exit)) (r .next) ⌝ }
+    ensures { λ r. ⌜ r .next ≡ at + 4 * count ⌝ }
+    ensures { λ r. ⌜ Made Valid (stepped monoFrame count first .voice) (r .voice) ⌝ }
+{
+    let mut last = first;
+    let mut next = at;
+    let mut left = count;
+    while left > 0 {
+        let v = last.voice;
+        let t = v.tick_envelope();
+        last = t.next_sample();
+        let g = last.given;
+        next = put(out, next, given_number(g), 4);
+        left -= 1;
+    }
+    let voice = last.voice;
+    Framed { voice, next }
+}
+
+fn left_number(g: StereoGiven) -> u64
+    ensures { λ r. ⌜ r ≡ leftNumber g ⌝ }
+{
+    match g {
+        StereoGiven::Pair(left, _) => unsigned8(left) as u64,
+        StereoGiven::None => 256,
+    }
+}
+
+fn right_number(g: StereoGiven) -> u64
+    ensures { λ r. ⌜ r ≡ rightNumber g ⌝ }
+{
+    match g {
+        StereoGiven::Pair(_, right) => unsigned8(right) as u64,
+        StereoGiven::None => 0,
+    }
+}
+
+fn put_pair(out: &mut [u8; 262144], at: usize, g: StereoGiven) -> usize
+    requires { ⌜ at + 6 ≤ 262144 ⌝ }
+    ensures { λ r. ⌜ Wrote (now (out .entry)) at (pairOf g) (now (out .exit)) r × (r ≡ at + 6) ⌝ }
+{
+    let n = put(out, at, left_number(g), 4);
+    put(out, n, right_number(g), 2)
+}
+
+fn pairs(out: &mut [u8; 262144], at: usize, first: StereoStep, count: u16) -> Framed
+    requires { ⌜ ValidStereoStep first ⌝ }
+    requires { ⌜ at + 6 * count ≤ 262144 ⌝ }
+    ensures { λ r. ⌜ Wrote (now (out .entry)) at (texts stereoFrame pairText count first) (now (out .exit)) (r .next) ⌝ }
+    ensures { λ r. ⌜ r .next ≡ at + 6 * count ⌝ }
+    ensures { λ r. ⌜ Made Valid (stepped stereoFrame count first .voice) (r .voice) ⌝ }
+{
+    let mut last = first;
+    let mut next = at;
+    let mut left = count;
+    while left > 0 {
+        let v = last.voice;
+        let t = v.tick_envelope();
+        last = t.next_stereo_sample();
+        let g = last.given;
+        next = put_pair(out, next, g);
+        left -= 1;
+    }
+    let voice = last.voice;
+    Framed { voice, next }
+}
+
+// On one side or on two.
+fn put_frames(out: &mut [u8; 262144], at: usize, stereo: u8, voice: Voice, count: u16) -> Framed
+    requires { ⌜ Valid voice ⌝ }
+    requires { ⌜ (at ≤ 100000) × (count ≤ 16000) ⌝ }
+    ensures { λ r. ⌜ Wrote (now (out .entry)) at (framesText stereo count voice) (now (out .exit)) (r .next) ⌝ }
+    ensures { λ r. ⌜ r .next ≤ at + 96000 ⌝ }
+    ensures { λ r. ⌜ Made Valid (framesLast stereo count voice) (r .voice) ⌝ }
+{
+    if stereo == 1 {
+        let first = StereoStep {
+            voice,
+            given: StereoGiven::None,
+        };
+        pairs(out, at, first, count)
+    } else {
+        let first = VoiceStep {
+            voice,
+            given: Given::None,
+        };
+        frames(out, at, first, count)
+    }
+}
+
+fn put_voice(out: &mut [u8; 262144], at: usize, v: Voice) -> usize
+    requires { ⌜ at ≤ 150000 ⌝ }
+    requires { ⌜ Valid v ⌝ }
+    ensures { λ r. ⌜ Wrote (now (out .entry)) at (voiceFields v) (now (out .exit)) r × (r ≤ at + 336) ⌝ }
+{
+    let s = v.source;
+    let a = v.adsr;
+    let gain = v.gain_q8 as u64;
+    let priority = v.priority as u64;
+    let pan = v.pan_q8 as u64;
+    let rate = v.sample_rate_hz as u64;
+    let n1 = put_source(out, at, s);
+    let n2 = put_adsr(out, n1, a);
+    put_four(out, n2, gain, priority, pan, rate)
+}
+
+fn run_voice(l: &[u8], out: &mut [u8; 262144]) -> usize
+    requires { ⌜ longAt (now l) 9 ≤ 65537 ⌝ }
+    ensures { λ r. ⌜ Wrote (now (out .entry)) 0 (voiceRun (now (l .entry))) (now (out .exit)) r ⌝ }
+{
+    let n = put_line(out, 0, 2);
+    let held = held_at(l);
+    let stereo = byte_at(l, 22);
+    let to = put_frames(out, n, stereo, held, printed_at(l, 27));
+    let v = to.voice;
+    let state = put_voice(out, to.next, v);
+    let end = put(out, state, flag_number(v.is_audible()), 2);
+    end_line(out, end)
+}
+
+pub fn voice(l: &[u8], out: &mut [u8; 262144]) -> usize
+    ensures { λ r. ⌜ Wrote (now (out .entry)) 0 (voiceText (now (l .entry))) (now (out .exit)) r ⌝ }
+{
+    if long_at(l, 9) <= 65537 {
+        run_voice(l, out)
+    } else {
+        put_line(out, 2, 2)
+    }
+}

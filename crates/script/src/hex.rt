@@ -17,7 +17,7 @@ fn is_digit(c: u8) -> bool
     }
 }
 
-pub fn all_digits(l: &[u8]) -> bool
+pub(crate) fn all_digits(l: &[u8]) -> bool
     ensures { λ r. ⌜ r ≡ allDigits (now (l .entry)) ⌝ }
 {
     let mut i = 0;
@@ -48,28 +48,28 @@ fn at(l: &[u8], i: usize) -> u8
 }
 
 // The fields of one byte, two, four and three, from byte k on. No line has 65,536 bytes.
-pub fn byte_at(l: &[u8], k: usize) -> u8
+pub(crate) fn byte_at(l: &[u8], k: usize) -> u8
     requires { ⌜ k < 65536 ⌝ }
     ensures { λ r. ⌜ r ≡ byteAt (now (l .entry)) k ⌝ }
 {
     16 * digit(at(l, 2 * k)) + digit(at(l, 2 * k + 1))
 }
 
-pub fn wide_at(l: &[u8], k: usize) -> u16
+pub(crate) fn wide_at(l: &[u8], k: usize) -> u16
     requires { ⌜ k < 65535 ⌝ }
     ensures { λ r. ⌜ r ≡ wideAt (now (l .entry)) k ⌝ }
 {
     256 * (byte_at(l, k) as u16) + (byte_at(l, k + 1) as u16)
 }
 
-pub fn long_at(l: &[u8], k: usize) -> u32
+pub(crate) fn long_at(l: &[u8], k: usize) -> u32
     requires { ⌜ k < 65533 ⌝ }
     ensures { λ r. ⌜ r ≡ longAt (now (l .entry)) k ⌝ }
 {
     65536 * (wide_at(l, k) as u32) + (wide_at(l, k + 2) as u32)
 }
 
-pub fn three_at(l: &[u8], k: usize) -> u32
+pub(crate) fn three_at(l: &[u8], k: usize) -> u32
     requires { ⌜ k < 65533 ⌝ }
     ensures { λ r. ⌜ r ≡ threeAt (now (l .entry)) k ⌝ }
 {
@@ -77,7 +77,7 @@ pub fn three_at(l: &[u8], k: usize) -> u32
 }
 
 // Two's complement, read and written.
-pub fn signed8(n: u8) -> i8
+pub(crate) fn signed8(n: u8) -> i8
     ensures { λ r. ⌜ r ≡ toZ w8 n ⌝ }
 {
     if n < 128 {
@@ -87,7 +87,7 @@ pub fn signed8(n: u8) -> i8
     }
 }
 
-pub fn signed32(n: u32) -> i32
+pub(crate) fn signed32(n: u32) -> i32
     ensures { λ r. ⌜ r ≡ toZ w32 n ⌝ }
 {
     if n < 0x8000_0000 {
@@ -97,7 +97,7 @@ pub fn signed32(n: u32) -> i32
     }
 }
 
-pub fn unsigned8(z: i8) -> u8
+pub(crate) fn unsigned8(z: i8) -> u8
     ensures { λ r. ⌜ r ≡ ofZ w8 z ⌝ }
 {
     if z < 0 {
@@ -107,7 +107,7 @@ pub fn unsigned8(z: i8) -> u8
     }
 }
 
-pub fn unsigned16(z: i16) -> u16
+pub(crate) fn unsigned16(z: i16) -> u16
     ensures { λ r. ⌜ r ≡ ofZ w16 z ⌝ }
 {
     if z < 0 {
@@ -117,7 +117,7 @@ pub fn unsigned16(z: i16) -> u16
     }
 }
 
-pub fn unsigned32(z: i32) -> u32
+pub(crate) fn unsigned32(z: i32) -> u32
     ensures { λ r. ⌜ r ≡ ofZ w32 z ⌝ }
 {
     if z < 0 {
@@ -135,7 +135,7 @@ fn digit_char(n: u8) -> u8
 }
 
 // The low digits of the value from a place on, the last one first. It gives the place after them.
-pub fn put(out: &mut [u8; 262144], at: usize, value: u64, digits: u8) -> usize
+pub(crate) fn put(out: &mut [u8; 262144], at: usize, value: u64, digits: u8) -> usize
     requires { ⌜ at + digits ≤ 262144 ⌝ }
     ensures { λ r. ⌜ Wrote (now (out .entry)) at (hexOf digits value) (now (out .exit)) r × (r ≡ at + digits) ⌝ }
 {
@@ -150,7 +150,7 @@ pub fn put(out: &mut [u8; 262144], at: usize, value: u64, digits: u8) -> usize
     end
 }
 
-pub fn put_four(out: &mut [u8; 262144], at: usize, a: u64, b: u64, c: u64, d: u64) -> usize
+pub(crate) fn put_four(out: &mut [u8; 262144], at: usize, a: u64, b: u64, c: u64, d: u64) -> usize
     requires { ⌜ at ≤ 262080 ⌝ }
     ensures { λ r. ⌜ Wrote (now (out .entry)) at (fourOf a b c d) (now (out .exit)) r × (r ≡ at + 64) ⌝ }
 {
@@ -160,7 +160,7 @@ pub fn put_four(out: &mut [u8; 262144], at: usize, a: u64, b: u64, c: u64, d: u6
     put(out, n3, d, 16)
 }
 
-pub fn end_line(out: &mut [u8; 262144], at: usize) -> usize
+pub(crate) fn end_line(out: &mut [u8; 262144], at: usize) -> usize
     requires { ⌜ at < 262144 ⌝ }
     ensures { λ r. ⌜ Wrote (now (out .entry)) at newline (now (out .exit)) r ⌝ }
 {
@@ -169,7 +169,7 @@ pub fn end_line(out: &mut [u8; 262144], at: usize) -> usize
 }
 
 // A first line: the value's digits and the line's end.
-pub fn put_line(out: &mut [u8; 262144], value: u64, digits: u8) -> usize
+pub(crate) fn put_line(out: &mut [u8; 262144], value: u64, digits: u8) -> usize
     ensures { λ r. ⌜ Wrote (now (out .entry)) 0 (hexOf digits value ++ newline) (now (out .exit)) r × (r ≡ digits + 1) ⌝ }
 {
     let n = put(out, 0, value, digits);

@@ -11,7 +11,7 @@ use crate::hex::unsigned8;
 use tier::EffectKind;
 use tier::KindRead;
 
-pub fn gain(l: &[u8]) -> Reply
+pub(crate) fn gain(l: &[u8]) -> Reply
     ensures { λ r. ⌜ r ≡ gainReply (now (l .entry)) ⌝ }
 {
     let sample = signed8(byte_at(l, 1));
@@ -22,7 +22,7 @@ pub fn gain(l: &[u8]) -> Reply
     }
 }
 
-pub fn lerp(l: &[u8]) -> Reply
+pub(crate) fn lerp(l: &[u8]) -> Reply
     ensures { λ r. ⌜ r ≡ lerpReply (now (l .entry)) ⌝ }
 {
     let a = signed8(byte_at(l, 1));
@@ -34,7 +34,7 @@ pub fn lerp(l: &[u8]) -> Reply
     }
 }
 
-pub fn pan_gains(l: &[u8]) -> Reply
+pub(crate) fn pan_gains(l: &[u8]) -> Reply
     ensures { λ r. ⌜ r ≡ panReply (now (l .entry)) ⌝ }
 {
     let gains = fixed::pan_to_gains_q8(byte_at(l, 1));
@@ -44,7 +44,7 @@ pub fn pan_gains(l: &[u8]) -> Reply
     }
 }
 
-pub fn phase_increment(l: &[u8]) -> Reply
+pub(crate) fn phase_increment(l: &[u8]) -> Reply
     ensures { λ r. ⌜ r ≡ incrementReply (now (l .entry)) ⌝ }
 {
     let value = fixed::hz_to_phase_inc(long_at(l, 1), long_at(l, 5));
@@ -54,7 +54,7 @@ pub fn phase_increment(l: &[u8]) -> Reply
     }
 }
 
-pub fn sine(l: &[u8]) -> Reply
+pub(crate) fn sine(l: &[u8]) -> Reply
     ensures { λ r. ⌜ r ≡ sineReply (now (l .entry)) ⌝ }
 {
     let value = unsigned8(fixed::sin_table(byte_at(l, 1)));
@@ -75,7 +75,7 @@ fn float_of(bits: u32) -> f32
     }
 }
 
-pub fn decibels_to_gain(l: &[u8]) -> Reply
+pub(crate) fn decibels_to_gain(l: &[u8]) -> Reply
     ensures { λ r. ⌜ r ≡ toGainReply (now (l .entry)) ⌝ }
 {
     let value = fixed::db_to_q8(float_of(long_at(l, 1)));
@@ -85,7 +85,7 @@ pub fn decibels_to_gain(l: &[u8]) -> Reply
     }
 }
 
-pub fn gain_to_decibels(l: &[u8]) -> Reply
+pub(crate) fn gain_to_decibels(l: &[u8]) -> Reply
     ensures { λ r. ⌜ r ≡ toDecibelsReply (now (l .entry)) ⌝ }
 {
     let decibels = fixed::q8_to_db(byte_at(l, 1));
@@ -96,7 +96,7 @@ pub fn gain_to_decibels(l: &[u8]) -> Reply
     }
 }
 
-pub fn phase(l: &[u8]) -> Reply
+pub(crate) fn phase(l: &[u8]) -> Reply
     ensures { λ r. ⌜ r ≡ phaseReply (now (l .entry)) ⌝ }
 {
     let phase = long_at(l, 1);
@@ -108,7 +108,7 @@ pub fn phase(l: &[u8]) -> Reply
     }
 }
 
-pub fn crossfade(l: &[u8]) -> Reply
+pub(crate) fn crossfade(l: &[u8]) -> Reply
     ensures { λ r. ⌜ r ≡ crossfadeReply (now (l .entry)) ⌝ }
 {
     let a = signed8(byte_at(l, 1));
@@ -120,7 +120,7 @@ pub fn crossfade(l: &[u8]) -> Reply
     }
 }
 
-pub fn clamp(l: &[u8]) -> Reply
+pub(crate) fn clamp(l: &[u8]) -> Reply
     ensures { λ r. ⌜ r ≡ clampReply (now (l .entry)) ⌝ }
 {
     let value = unsigned8(fixed::clamp_sample(signed32(long_at(l, 1))));
@@ -130,7 +130,7 @@ pub fn clamp(l: &[u8]) -> Reply
     }
 }
 
-pub fn kind(l: &[u8]) -> Reply
+pub(crate) fn kind(l: &[u8]) -> Reply
     ensures { λ r. ⌜ r ≡ kindReply (now (l .entry)) ⌝ }
 {
     let read = EffectKind::from_u8(byte_at(l, 1));

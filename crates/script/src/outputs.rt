@@ -15,7 +15,7 @@ use output::Limited;
 use output::Period;
 use output::PeriodRead;
 
-pub fn limiter(l: &[u8]) -> Reply
+pub(crate) fn limiter(l: &[u8]) -> Reply
     ensures { λ r. ⌜ r ≡ limiterReply (now (l .entry)) ⌝ }
 {
     let limited = output::limit_bus(signed32(long_at(l, 1)));
@@ -31,7 +31,7 @@ pub fn limiter(l: &[u8]) -> Reply
     }
 }
 
-pub fn duty(l: &[u8]) -> Reply
+pub(crate) fn duty(l: &[u8]) -> Reply
     ensures { λ r. ⌜ r ≡ dutyReply (now (l .entry)) ⌝ }
 {
     let sample = signed8(byte_at(l, 1));
@@ -48,7 +48,7 @@ pub fn duty(l: &[u8]) -> Reply
     }
 }
 
-pub fn fade_step(l: &[u8]) -> Reply
+pub(crate) fn fade_step(l: &[u8]) -> Reply
     ensures { λ r. ⌜ r ≡ fadeReply (now (l .entry)) ⌝ }
 {
     let step = config::crossfade_step_q8(wide_at(l, 1), long_at(l, 3));
@@ -64,7 +64,7 @@ pub fn fade_step(l: &[u8]) -> Reply
     }
 }
 
-pub fn conversions(l: &[u8]) -> Reply
+pub(crate) fn conversions(l: &[u8]) -> Reply
     ensures { λ r. ⌜ r ≡ conversionsReply (now (l .entry)) ⌝ }
 {
     let sample = signed8(byte_at(l, 1));
@@ -78,7 +78,7 @@ pub fn conversions(l: &[u8]) -> Reply
     }
 }
 
-pub fn conversion_to_i32(l: &[u8]) -> Reply
+pub(crate) fn conversion_to_i32(l: &[u8]) -> Reply
     ensures { λ r. ⌜ r ≡ conversion32Reply (now (l .entry)) ⌝ }
 {
     let value = unsigned32(output::pcm_to_i32(signed8(byte_at(l, 1))));

@@ -38,7 +38,7 @@ struct Ticked {
 }
 
 // An envelope's times, from byte k on.
-pub fn spec_at(l: &[u8], k: usize) -> AdsrSpec
+pub(crate) fn spec_at(l: &[u8], k: usize) -> AdsrSpec
     requires { ⌜ k ≤ 60000 ⌝ }
     ensures { λ r. ⌜ r ≡ specAt (now (l .entry)) k ⌝ }
 {
@@ -87,7 +87,7 @@ fn run_levels(l: &[u8], e: Envelope, out: &mut [u8; 262144]) -> usize
     end_line(out, left.next)
 }
 
-pub fn levels(l: &[u8], out: &mut [u8; 262144]) -> usize
+pub(crate) fn levels(l: &[u8], out: &mut [u8; 262144]) -> usize
     ensures { λ r. ⌜ Wrote (now (out .entry)) 0 (levelsText (now (l .entry))) (now (out .exit)) r ⌝ }
 {
     let opened = open_at(l);
@@ -122,7 +122,7 @@ fn phase_number(p: AdsrPhase) -> u64
     }
 }
 
-pub fn put_adsr(out: &mut [u8; 262144], at: usize, a: Adsr) -> usize
+pub(crate) fn put_adsr(out: &mut [u8; 262144], at: usize, a: Adsr) -> usize
     requires { ⌜ at ≤ 200000 ⌝ }
     ensures { λ r. ⌜ Wrote (now (out .entry)) at (adsrText a) (now (out .exit)) r × (r ≡ at + 144) ⌝ }
 {
@@ -158,7 +158,7 @@ fn run_state(l: &[u8], e: Envelope, out: &mut [u8; 262144]) -> usize
     end_line(out, end)
 }
 
-pub fn state(l: &[u8], out: &mut [u8; 262144]) -> usize
+pub(crate) fn state(l: &[u8], out: &mut [u8; 262144]) -> usize
     ensures { λ r. ⌜ Wrote (now (out .entry)) 0 (stateText (now (l .entry))) (now (out .exit)) r ⌝ }
 {
     let opened = open_at(l);
@@ -258,7 +258,7 @@ fn sample_count(digits: usize) -> usize
 }
 
 // Of a line of at most 8,194 digits.
-pub fn duties(l: &[u8], out: &mut [u8; 262144]) -> usize
+pub(crate) fn duties(l: &[u8], out: &mut [u8; 262144]) -> usize
     requires { ⌜ length (now l) ≤ 8194 ⌝ }
     ensures { λ r. ⌜ Wrote (now (out .entry)) 0 (dutiesText (now (l .entry))) (now (out .exit)) r ⌝ }
 {

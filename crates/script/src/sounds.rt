@@ -30,7 +30,7 @@ struct Requested {
     next: usize,
 }
 
-pub fn waveforms(kind: u8) -> u8
+pub(crate) fn waveforms(kind: u8) -> u8
     ensures { λ r. ⌜ r ≡ waveformsOf kind ⌝ }
 {
     match kind {
@@ -41,7 +41,7 @@ pub fn waveforms(kind: u8) -> u8
     }
 }
 
-pub fn source_reply(l: &[u8]) -> Reply
+pub(crate) fn source_reply(l: &[u8]) -> Reply
     ensures { λ r. ⌜ r ≡ sourceReply (now (l .entry)) ⌝ }
 {
     let count = waveforms(byte_at(l, 1));
@@ -76,7 +76,7 @@ fn polyblep_waveform(n: u8) -> PolyBlepWaveform
     }
 }
 
-pub fn source_at(l: &[u8]) -> VoiceSource
+pub(crate) fn source_at(l: &[u8]) -> VoiceSource
     ensures { λ r. ⌜ Made ValidSource (sourceAt (now (l .entry))) r ⌝ }
 {
     let kind = byte_at(l, 1);
@@ -92,7 +92,7 @@ pub fn source_at(l: &[u8]) -> VoiceSource
 }
 
 // A record that prints more is bad; where it is not, this is the field.
-pub fn printed_at(l: &[u8], k: usize) -> u16
+pub(crate) fn printed_at(l: &[u8], k: usize) -> u16
     requires { ⌜ k < 65535 ⌝ }
     ensures { λ r. ⌜ (r ≡ min (wideAt (now (l .entry)) k) 16000) × (r ≤ 16000) ⌝ }
 {
@@ -100,7 +100,7 @@ pub fn printed_at(l: &[u8], k: usize) -> u16
     if n <= 16000 { n } else { 16000 }
 }
 
-pub fn given_number(g: Given) -> u64
+pub(crate) fn given_number(g: Given) -> u64
     ensures { λ r. ⌜ r ≡ givenNumber g ⌝ }
 {
     match g {
@@ -173,7 +173,7 @@ fn run_source(l: &[u8], out: &mut [u8; 262144]) -> usize
     end_line(out, end)
 }
 
-pub fn source(l: &[u8], out: &mut [u8; 262144]) -> usize
+pub(crate) fn source(l: &[u8], out: &mut [u8; 262144]) -> usize
     ensures { λ r. ⌜ Wrote (now (out .entry)) 0 (sourceText (now (l .entry))) (now (out .exit)) r ⌝ }
 {
     if long_at(l, 9) <= 65537 {

@@ -17,7 +17,7 @@ use tone::ToneVoice;
 use tone::Waveform;
 use voice::VoiceSource;
 
-pub fn flag_number(b: bool) -> u64
+pub(crate) fn flag_number(b: bool) -> u64
     ensures { λ r. ⌜ r ≡ flagNumber b ⌝ }
 {
     if b { 1 } else { 0 }
@@ -103,7 +103,7 @@ fn put_fm(out: &mut [u8; 262144], at: usize, v: FmVoice) -> usize
     put(out, n6, flag_number(v.active), 16)
 }
 
-pub fn put_source(out: &mut [u8; 262144], at: usize, s: VoiceSource) -> usize
+pub(crate) fn put_source(out: &mut [u8; 262144], at: usize, s: VoiceSource) -> usize
     requires { ⌜ at ≤ 200000 ⌝ }
     requires { ⌜ ValidSource s ⌝ }
     ensures { λ r. ⌜ Wrote (now (out .entry)) at (sourceFields s) (now (out .exit)) r × (r ≤ at + 128) ⌝ }

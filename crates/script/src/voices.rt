@@ -37,7 +37,7 @@ struct Framed {
     next: usize,
 }
 
-pub fn voice_reply(l: &[u8]) -> Reply
+pub(crate) fn voice_reply(l: &[u8]) -> Reply
     ensures { λ r. ⌜ r ≡ voiceReply (now (l .entry)) ⌝ }
 {
     let count = waveforms(byte_at(l, 1));
@@ -230,7 +230,7 @@ fn run_voice(l: &[u8], out: &mut [u8; 262144]) -> usize
     end_line(out, end)
 }
 
-pub fn voice(l: &[u8], out: &mut [u8; 262144]) -> usize
+pub(crate) fn voice(l: &[u8], out: &mut [u8; 262144]) -> usize
     ensures { λ r. ⌜ Wrote (now (out .entry)) 0 (voiceText (now (l .entry))) (now (out .exit)) r ⌝ }
 {
     if long_at(l, 9) <= 65537 {

@@ -58,7 +58,14 @@ sourceAt l =
 abbrev pub printedAt : List ℕ → ℕ → ℕ
 printedAt l k = min (wideAt l k) 16000
 
--- a request for the next sample
+-- a request that is not printed: what it leaves of the source
+abbrev pub passedOver : VoiceSource → VoiceSource
+passedOver s = steppedSource s .source
+
+-- a request that is printed, and before the first
+abbrev pub noRequest : VoiceSource → SourceStep
+noRequest s = record { source = s; given = G.None }
+
 abbrev pub request : SourceStep → SourceStep
 request s = steppedSource (s .source)
 
@@ -107,7 +114,7 @@ carrierNumber C.None = 0
 -- the requests not printed, those printed, the state they leave
 abbrev pub sourceRun : List ℕ → List ℕ
 sourceRun l =
-    let from = stepped request (threeAt l 13) (record { source = sourceAt l; given = G.None }) in
+    let from = noRequest (stepped passedOver (threeAt l 13) (sourceAt l)) in
     let last = stepped request (printedAt l 16) from .source in
     numberLine 0
     ++ texts request givenText (printedAt l 16) from

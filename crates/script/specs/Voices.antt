@@ -32,19 +32,23 @@ monoFrame s = steppedVoice (tickedVoice (s .voice))
 abbrev pub stereoFrame : StereoStep → StereoStep
 stereoFrame s = stereoStep (tickedVoice (s .voice))
 
--- before the first frame
+-- a frame that is not printed, "in mono": what it leaves of the voice
+abbrev pub passedFrame : Voice → Voice
+passedFrame v = steppedVoice (tickedVoice v) .voice
+
+-- before the first printed frame
 abbrev pub noFrame : Voice → VoiceStep
 noFrame v = record { voice = v; given = G.None }
 
 abbrev pub noPair : Voice → StereoStep
 noPair v = record { voice = v; given = P.None }
 
--- "The release, if any, stands between the frames not printed and those printed", the first "in mono"
+-- "The release, if any, stands between the frames not printed and those printed"
 abbrev pub letGoIf : ℕ → Voice → Voice
 letGoIf release v = cond (eqb release 1) (releasedVoice v) v
 
 unfoldable pub heldAt : List ℕ → Voice
-heldAt l = letGoIf (byteAt l 26) (stepped monoFrame (threeAt l 23) (noFrame (voiceAt l)) .voice)
+heldAt l = letGoIf (byteAt l 26) (stepped passedFrame (threeAt l 23) (voiceAt l))
 
 -- "each printed frame as 00 and the sample, in stereo left and right, or 0100 (010000) where none is given"
 abbrev pub frameText : VoiceStep → List ℕ

@@ -6,7 +6,7 @@ ghost use Rattle.voice.specs.Sources.{ValidSource, ValidStep};
 ghost use Rattle.script.specs.Hex.{wideAt, Wrote};
 ghost use Rattle.script.specs.Replies.{waveformsOf, sourceReply};
 ghost use Rattle.script.specs.Runs.{stepped, texts};
-ghost use Rattle.script.specs.Sounds.{toneWaveform, polyBlepWaveform, sourceAt, request, givenNumber, givenText, carrierNumber, sourceRun, sourceText};
+ghost use Rattle.script.specs.Sounds.{toneWaveform, polyBlepWaveform, sourceAt, passedOver, request, givenNumber, givenText, carrierNumber, sourceRun, sourceText};
 use crate::Reply;
 use crate::hex::byte_at;
 use crate::hex::end_line;
@@ -119,18 +119,18 @@ fn carrier_number(c: Carrier) -> u32
 }
 
 // Requests that are not printed.
-fn skipped(first: SourceStep, count: u32) -> SourceStep
-    requires { ⌜ ValidStep first ⌝ }
-    ensures { λ r. ⌜ Made ValidStep (stepped request count first) r ⌝ }
+fn skipped(first: VoiceSource, count: u32) -> VoiceSource
+    requires { ⌜ ValidSource first ⌝ }
+    ensures { λ r. ⌜ Made ValidSource (stepped passedOver count first) r ⌝ }
 {
-    let mut last = first;
+    let mut source = first;
     let mut left = count;
     while left > 0 {
-        let s = last.source;
-        last = s.next_raw_sample();
+        let step = source.next_raw_sample();
+        source = step.source;
         left -= 1;
     }
-    last
+    source
 }
 
 // Requests, each with what it gave.
@@ -158,13 +158,12 @@ fn run_source(l: &[u8], out: &mut [u8; 262144]) -> usize
     ensures { λ r. ⌜ Wrote (now (out .entry)) 0 (sourceRun (now (l .entry))) (now (out .exit)) r ⌝ }
 {
     let n = put_line(out, 0, 2);
-    let source = source_at(l);
+    let source = skipped(source_at(l), three_at(l, 13));
     let first = SourceStep {
         source,
         given: Given::None,
     };
-    let from = skipped(first, three_at(l, 13));
-    let to = requests(out, n, from, printed_at(l, 16));
+    let to = requests(out, n, first, printed_at(l, 16));
     let last = to.last;
     let s = last.source;
     let state = put_source(out, to.next, s);

@@ -6,7 +6,7 @@ ghost use Rattle.voice.specs.Voices.{Valid, ValidVoiceStep, ValidStereoStep};
 ghost use Rattle.script.specs.Hex.{longAt, Wrote};
 ghost use Rattle.script.specs.Replies.{voiceReply};
 ghost use Rattle.script.specs.Runs.{stepped, texts};
-ghost use Rattle.script.specs.Voices.{voiceAt, letGoIf, heldAt, monoFrame, stereoFrame, frameText, leftNumber, rightNumber, pairOf, pairText, framesText, framesLast, voiceFields, voiceRun, voiceText};
+ghost use Rattle.script.specs.Voices.{voiceAt, letGoIf, heldAt, passedFrame, monoFrame, stereoFrame, frameText, leftNumber, rightNumber, pairOf, pairText, framesText, framesLast, voiceFields, voiceRun, voiceText};
 use crate::Reply;
 use crate::hex::byte_at;
 use crate::hex::end_line;
@@ -70,19 +70,19 @@ fn voice_at(l: &[u8]) -> Voice
 }
 
 // Frames that are not printed.
-fn passed(first: VoiceStep, count: u32) -> VoiceStep
-    requires { ⌜ ValidVoiceStep first ⌝ }
-    ensures { λ r. ⌜ Made ValidVoiceStep (stepped monoFrame count first) r ⌝ }
+fn passed(first: Voice, count: u32) -> Voice
+    requires { ⌜ Valid first ⌝ }
+    ensures { λ r. ⌜ Made Valid (stepped passedFrame count first) r ⌝ }
 {
-    let mut last = first;
+    let mut voice = first;
     let mut left = count;
     while left > 0 {
-        let v = last.voice;
-        let t = v.tick_envelope();
-        last = t.next_sample();
+        let ticked = voice.tick_envelope();
+        let step = ticked.next_sample();
+        voice = step.voice;
         left -= 1;
     }
-    last
+    voice
 }
 
 fn let_go(release: u8, v: Voice) -> Voice
@@ -97,14 +97,8 @@ fn held_at(l: &[u8]) -> Voice
     requires { ⌜ longAt (now l) 9 ≤ 65537 ⌝ }
     ensures { λ r. ⌜ Made Valid (heldAt (now (l .entry))) r ⌝ }
 {
-    let voice = voice_at(l);
-    let first = VoiceStep {
-        voice,
-        given: Given::None,
-    };
-    let last = passed(first, three_at(l, 23));
-    let v = last.voice;
-    let_go(byte_at(l, 26), v)
+    let voice = passed(voice_at(l), three_at(l, 23));
+    let_go(byte_at(l, 26), voice)
 }
 
 fn frames(out: &mut [u8; 262144], at: usize, first: VoiceStep, count: u16) -> Framed

@@ -2,18 +2,18 @@
 use native.Mathlib.Omega.{arith}
 use mathlib.Core.Path.{sym, _∙_, refl, _≡_}
 use Rattle.script.proofs.Going.{stepped-none, stepped-one}
-use Rattle.voice.specs.Sources.{ValidStep}
+use Rattle.voice.specs.Sources.{ValidSource}
 use Rattle.script.specs.Runs.{stepped}
-use Rattle.script.specs.Sounds.{request}
+use Rattle.script.specs.Sounds.{passedOver}
 use Rattle.script.proofs.sounds.skipped.Statement.{statement}
 use Rattle.script.proofs.sounds.skipped.Tie as tie
 
 abbrev Inv-loop : tie.InvT-loop
-Inv-loop count last₀ left₀ last left =
-    (stepped request left last ≡ stepped request count last₀) × ValidStep last
+Inv-loop count source₀ left₀ source left =
+    (stepped passedOver left source ≡ stepped passedOver count source₀) × ValidSource source
 
 abbrev μ-loop : tie.MeasureT-loop
-μ-loop count last₀ left₀ last left = left
+μ-loop count source₀ left₀ source left = left
 
 loop-holds : tie.Need-loop-holds Inv-loop μ-loop
 loop-holds c = (refl, c .pre)
@@ -33,12 +33,12 @@ loop-again : tie.Need-loop-again Inv-loop μ-loop
 loop-again c =
     let b1 = c .before in
     let b2 = b1 .before in
-    (rw (c .next-raw-sample .ensures .same, ← stepped-one request (b2 .loop .left) (b2 .loop .last) (b1 .loop-test .taken)) (b2 .loop .inv .0), c .next-raw-sample .ensures .valid)
+    (rw (c .next-raw-sample .ensures .same, ← stepped-one passedOver (b2 .loop .left) (b2 .loop .source) (b1 .loop-test .taken)) (b2 .loop .inv .0), c .next-raw-sample .ensures .valid)
 
 returns : tie.Need-returns Inv-loop μ-loop
 returns c =
     let b1 = c .before in
-    record { same = sym (stepped-none request (b1 .loop .left) (b1 .loop .last) (c .loop-test .left)) ∙ b1 .loop .inv .0; valid = b1 .loop .inv .1 }
+    record { same = sym (stepped-none passedOver (b1 .loop .left) (b1 .loop .source) (c .loop-test .left)) ∙ b1 .loop .inv .0; valid = b1 .loop .inv .1 }
 
 pub skipped-spec : {M : Type 1} → statement M
 skipped-spec =

@@ -9,7 +9,7 @@ returns : tie.Need-returns
 unfolding heldAt
 returns c =
     let b1 = c .before in
-    let b2 = b1 .before .before in
+    let b2 = b1 .before in
     let b3 = b2 .before in
     let b4 = b3 .before in
     rw (sym (b1 .byte-at .ensures), sym (b3 .three-at .ensures), sym (b4 .voice-at .ensures .same), sym (b2 .passed .ensures .same)) (c .let-go .ensures)

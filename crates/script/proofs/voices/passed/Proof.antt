@@ -2,25 +2,25 @@
 use native.Mathlib.Omega.{arith}
 use mathlib.Core.Path.{sym, _∙_, refl, _≡_}
 use Rattle.script.proofs.Going.{stepped-none, stepped-one}
-use Rattle.voice.specs.Voices.{ValidVoiceStep}
+use Rattle.voice.specs.Voices.{Valid}
 use Rattle.script.specs.Runs.{stepped}
-use Rattle.script.specs.Voices.{monoFrame}
+use Rattle.script.specs.Voices.{passedFrame}
 use Rattle.script.proofs.voices.passed.Statement.{statement}
 use Rattle.script.proofs.voices.passed.Tie as tie
 
 abbrev Inv-loop : tie.InvT-loop
-Inv-loop count last₀ left₀ last left =
-    (stepped monoFrame left last ≡ stepped monoFrame count last₀) × ValidVoiceStep last
+Inv-loop count voice₀ left₀ voice left =
+    (stepped passedFrame left voice ≡ stepped passedFrame count voice₀) × Valid voice
 
 abbrev μ-loop : tie.MeasureT-loop
-μ-loop count last₀ left₀ last left = left
+μ-loop count voice₀ left₀ voice left = left
 
 loop-holds : tie.Need-loop-holds Inv-loop μ-loop
 loop-holds c = (refl, c .pre)
 
 tick-envelope-requires : tie.Need-tick-envelope-requires Inv-loop μ-loop
 tick-envelope-requires c κs =
-    let b1 = c .before .before in
+    let b1 = c .before in
     b1 .loop .inv .1
 
 next-sample-requires : tie.Need-next-sample-requires Inv-loop μ-loop
@@ -35,14 +35,15 @@ loop-less c = omega arith
 loop-again : tie.Need-loop-again Inv-loop μ-loop
 loop-again c =
     let b1 = c .before in
-    let b2 = b1 .before .before in
+    let b2 = b1 .before in
     let b3 = b2 .before in
-    (rw (c .next-sample .ensures .same, b1 .tick-envelope .ensures .same, ← stepped-one monoFrame (b3 .loop .left) (b3 .loop .last) (b2 .loop-test .taken)) (b3 .loop .inv .0), c .next-sample .ensures .valid)
+    let b4 = b3 .before in
+    (rw (b1 .next-sample .ensures .same, b2 .tick-envelope .ensures .same, ← stepped-one passedFrame (b4 .loop .left) (b4 .loop .voice) (b3 .loop-test .taken)) (b4 .loop .inv .0), b1 .next-sample .ensures .valid)
 
 returns : tie.Need-returns Inv-loop μ-loop
 returns c =
     let b1 = c .before in
-    record { same = sym (stepped-none monoFrame (b1 .loop .left) (b1 .loop .last) (c .loop-test .left)) ∙ b1 .loop .inv .0; valid = b1 .loop .inv .1 }
+    record { same = sym (stepped-none passedFrame (b1 .loop .left) (b1 .loop .voice) (c .loop-test .left)) ∙ b1 .loop .inv .0; valid = b1 .loop .inv .1 }
 
 pub passed-spec : {M : Type 1} → statement M
 passed-spec =

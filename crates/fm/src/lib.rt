@@ -1,6 +1,6 @@
 // Two-operator FM: a modulator's sample shifts the carrier's index into the sine table.
 ghost use mathlib.Core.Path.{_≡_};
-ghost use Rattle.fm.specs.Fm.{tableSample, modulatorHz, offsetOf, silentFm, startedFm, stoppedFm, steppedFm};
+ghost use Rattle.fm.specs.Fm.{SineTable, tableSample, modulatorHz, offsetOf, fmSample, silentFm, startedFm, stoppedFm, steppedFm};
 use fixed::Given;
 use fixed::Phase;
 
@@ -22,11 +22,12 @@ pub struct FmStep {
 }
 
 // The table between an index and the next, 255 being followed by 0.
-fn table_sample(index: u8, fraction: u8) -> i8
+fn table_sample(table: &[u8; 256], index: u8, fraction: u8) -> i8
+    requires { ⌜ SineTable (now table) ⌝ }
     ensures { λ r. ⌜ r ≡ tableSample index fraction ⌝ }
 {
-    let a = wavetable::sine_entry(index);
-    let b = wavetable::sine_entry(std::num::wrapping_add_u8(index, 1));
+    let a = wavetable::sine_entry(table, index);
+    let b = wavetable::sine_entry(table, std::num::wrapping_add_u8(index, 1));
     fixed::lerp_i8(a, b, fraction)
 }
 
@@ -38,13 +39,12 @@ fn modulator_hz(carrier_hz: u32, mod_ratio_cent: u16) -> u32
 }
 
 // How far the modulator shifts the carrier's index.
-fn mod_offset(mod_phase: Phase, mod_depth_q8: u8) -> u8
+fn mod_offset(table: &[u8; 256], mod_phase: Phase, mod_depth_q8: u8) -> u8
+    requires { ⌜ SineTable (now table) ⌝ }
     ensures { λ r. ⌜ r ≡ offsetOf «mod_phase» «mod_depth_q8» ⌝ }
 {
-    let m = table_sample(
-        fixed::phase_index(mod_phase),
-        fixed::phase_fraction(mod_phase),
-    );
+    let index = fixed::phase_index(mod_phase);
+    let m = table_sample(table, index, fixed::phase_fraction(mod_phase));
     fixed::as_u8(fixed::apply_gain_q8(m, mod_depth_q8))
 }
 
@@ -97,13 +97,21 @@ impl FmVoice {
         self.active
     }
 
+    // The table is laid out once for a sample, and lent to its four readings.
+    fn sample(self) -> i8
+        ensures { λ r. ⌜ r ≡ fmSample self ⌝ }
+    {
+        let table = wavetable::SINE_TABLE;
+        let offset = mod_offset(&table, self.mod_phase, self.mod_depth_q8);
+        let index = std::num::wrapping_add_u8(fixed::phase_index(self.carrier_phase), offset);
+        table_sample(&table, index, fixed::phase_fraction(self.carrier_phase))
+    }
+
     pub fn next_sample(self) -> FmStep
         ensures { λ r. ⌜ r ≡ steppedFm self ⌝ }
     {
         if self.active {
-            let offset = mod_offset(self.mod_phase, self.mod_depth_q8);
-            let index = std::num::wrapping_add_u8(fixed::phase_index(self.carrier_phase), offset);
-            let sample = table_sample(index, fixed::phase_fraction(self.carrier_phase));
+            let sample = self.sample();
             let voice = FmVoice {
                 carrier_phase: std::num::wrapping_add_u32(self.carrier_phase, self.carrier_inc),
                 mod_phase: std::num::wrapping_add_u32(self.mod_phase, self.mod_inc),

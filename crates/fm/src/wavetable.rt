@@ -1,9 +1,9 @@
 // The sine table that FM reads.
 ghost use mathlib.Core.Path.{_≡_};
-ghost use Rattle.fm.specs.Fm.{tableSine};
+ghost use Rattle.fm.specs.Fm.{SineTable, tableSine};
 
 // The sine at each index, plus 128.
-const SINE_TABLE: [u8; 256] = [
+pub(crate) const SINE_TABLE: [u8; 256] = [
     128,
     129,
     131,
@@ -263,9 +263,10 @@ const SINE_TABLE: [u8; 256] = [
 ];
 
 // The entry read as two's complement, as the source reads it: 128 counts as -128.
-pub(crate) fn sine_entry(index: u8) -> i8
+pub(crate) fn sine_entry(table: &[u8; 256], index: u8) -> i8
+    requires { ⌜ SineTable (now table) ⌝ }
     ensures { λ r. ⌜ r ≡ tableSine index ⌝ }
 {
     let i = index as usize;
-    fixed::as_i8(SINE_TABLE[i])
+    fixed::as_i8(table[i])
 }

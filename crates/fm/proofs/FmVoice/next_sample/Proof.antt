@@ -10,10 +10,7 @@ returns : tie.Need-returns
 unfolding steppedFm fmSample
 returns c =
     let s = c .before .before in
-    let f = s .before in
-    let i = f .before in
-    let o = i .before .before in
-    rw (o .before .if1 .taken, toZ-ofZ w8 (s .table-sample .result) (record { sfits = s .table-sample .ok }), s .table-sample .ensures, f .phase-fraction .ensures, i .wrapping-add-u8 .ensures, i .before .phase-index .ensures, o .mod-offset .ensures, c .before .wrapping-add-u32 .ensures, c .wrapping-add-u322 .ensures)
+    rw (s .before .if1 .taken, toZ-ofZ w8 (s .sample .result) (record { sfits = s .sample .ok }), s .sample .ensures, c .before .wrapping-add-u32 .ensures, c .wrapping-add-u322 .ensures)
 
 returns-2 : tie.Need-returns-2
 unfolding steppedFm
@@ -23,10 +20,6 @@ pub next-sample-spec : {M : Type 1} → statement M
 next-sample-spec =
     tie.close
     (tie.spec
-    (λ c κs. search needs)
-    (λ c κs. search needs)
-    (λ c κs. search needs)
-    (λ c κs. search needs)
     (λ c κs. search needs)
     (λ c κs. search needs)
     (λ c κs. search needs)

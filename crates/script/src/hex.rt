@@ -76,17 +76,7 @@ pub(crate) fn three_at(l: &[u8], k: usize) -> u32
     256 * (wide_at(l, k) as u32) + (byte_at(l, k + 2) as u32)
 }
 
-// Two's complement, read and written.
-pub(crate) fn signed8(n: u8) -> i8
-    ensures { λ r. ⌜ r ≡ toZ w8 n ⌝ }
-{
-    if n < 128 {
-        n as i8
-    } else {
-        -1 - ((255 - n) as i8)
-    }
-}
-
+// Two's complement, read and written; a byte's is in fixed.
 pub(crate) fn signed32(n: u32) -> i32
     ensures { λ r. ⌜ r ≡ toZ w32 n ⌝ }
 {
@@ -94,16 +84,6 @@ pub(crate) fn signed32(n: u32) -> i32
         n as i32
     } else {
         -1 - ((0xffff_ffff - n) as i32)
-    }
-}
-
-pub(crate) fn unsigned8(z: i8) -> u8
-    ensures { λ r. ⌜ r ≡ ofZ w8 z ⌝ }
-{
-    if z < 0 {
-        255 - ((-1 - z) as u8)
-    } else {
-        z as u8
     }
 }
 

@@ -5,17 +5,15 @@ ghost use Rattle.script.specs.Replies.{gainReply, lerpReply, panReply, i
 use crate::Reply;
 use crate::hex::byte_at;
 use crate::hex::long_at;
-use crate::hex::signed8;
 use crate::hex::signed32;
-use crate::hex::unsigned8;
 use tier::EffectKind;
 use tier::KindRead;
 
 pub(crate) fn gain(l: &[u8]) -> Reply
     ensures { λ r. ⌜ r ≡ gainReply (now (l .entry)) ⌝ }
 {
-    let sample = signed8(byte_at(l, 1));
-    let value = unsigned8(fixed::apply_gain_q8(sample, byte_at(l, 2)));
+    let sample = fixed::as_i8(byte_at(l, 1));
+    let value = fixed::as_u8(fixed::apply_gain_q8(sample, byte_at(l, 2)));
     Reply::Word {
         value: value as u64,
         digits: 2,
@@ -25,9 +23,9 @@ pub(crate) fn gain(l: &[u8]) -> Reply
 pub(crate) fn lerp(l: &[u8]) -> Reply
     ensures { λ r. ⌜ r ≡ lerpReply (now (l .entry)) ⌝ }
 {
-    let a = signed8(byte_at(l, 1));
-    let b = signed8(byte_at(l, 2));
-    let value = unsigned8(fixed::lerp_i8(a, b, byte_at(l, 3)));
+    let a = fixed::as_i8(byte_at(l, 1));
+    let b = fixed::as_i8(byte_at(l, 2));
+    let value = fixed::as_u8(fixed::lerp_i8(a, b, byte_at(l, 3)));
     Reply::Word {
         value: value as u64,
         digits: 2,
@@ -57,7 +55,7 @@ pub(crate) fn phase_increment(l: &[u8]) -> Reply
 pub(crate) fn sine(l: &[u8]) -> Reply
     ensures { λ r. ⌜ r ≡ sineReply (now (l .entry)) ⌝ }
 {
-    let value = unsigned8(fixed::sin_table(byte_at(l, 1)));
+    let value = fixed::as_u8(fixed::sin_table(byte_at(l, 1)));
     Reply::Word {
         value: value as u64,
         digits: 2,
@@ -111,9 +109,9 @@ pub(crate) fn phase(l: &[u8]) -> Reply
 pub(crate) fn crossfade(l: &[u8]) -> Reply
     ensures { λ r. ⌜ r ≡ crossfadeReply (now (l .entry)) ⌝ }
 {
-    let a = signed8(byte_at(l, 1));
-    let b = signed8(byte_at(l, 2));
-    let value = unsigned8(fixed::mix_crossfade(a, b, byte_at(l, 3)));
+    let a = fixed::as_i8(byte_at(l, 1));
+    let b = fixed::as_i8(byte_at(l, 2));
+    let value = fixed::as_u8(fixed::mix_crossfade(a, b, byte_at(l, 3)));
     Reply::Word {
         value: value as u64,
         digits: 2,
@@ -123,7 +121,7 @@ pub(crate) fn crossfade(l: &[u8]) -> Reply
 pub(crate) fn clamp(l: &[u8]) -> Reply
     ensures { λ r. ⌜ r ≡ clampReply (now (l .entry)) ⌝ }
 {
-    let value = unsigned8(fixed::clamp_sample(signed32(long_at(l, 1))));
+    let value = fixed::as_u8(fixed::clamp_sample(signed32(long_at(l, 1))));
     Reply::Word {
         value: value as u64,
         digits: 2,

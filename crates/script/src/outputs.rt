@@ -4,9 +4,7 @@ ghost use Rattle.script.specs.Replies.{limiterReply, dutyReply, fadeRepl
 use crate::Reply;
 use crate::hex::byte_at;
 use crate::hex::long_at;
-use crate::hex::signed8;
 use crate::hex::signed32;
-use crate::hex::unsigned8;
 use crate::hex::unsigned16;
 use crate::hex::unsigned32;
 use crate::hex::wide_at;
@@ -21,7 +19,7 @@ pub(crate) fn limiter(l: &[u8]) -> Reply
     let limited = output::limit_bus(signed32(long_at(l, 1)));
     match limited {
         Limited::Sample(s) => Reply::Word {
-            value: unsigned8(s) as u64,
+            value: fixed::as_u8(s) as u64,
             digits: 4,
         },
         Limited::Refused(e) => Reply::Word {
@@ -34,7 +32,7 @@ pub(crate) fn limiter(l: &[u8]) -> Reply
 pub(crate) fn duty(l: &[u8]) -> Reply
     ensures { λ r. ⌜ r ≡ dutyReply (now (l .entry)) ⌝ }
 {
-    let sample = signed8(byte_at(l, 1));
+    let sample = fixed::as_i8(byte_at(l, 1));
     let period = Period::new(wide_at(l, 2));
     match period {
         PeriodRead::Accepted(p) => Reply::Word {
@@ -67,7 +65,7 @@ pub(crate) fn fade_step(l: &[u8]) -> Reply
 pub(crate) fn conversions(l: &[u8]) -> Reply
     ensures { λ r. ⌜ r ≡ conversionsReply (now (l .entry)) ⌝ }
 {
-    let sample = signed8(byte_at(l, 1));
+    let sample = fixed::as_i8(byte_at(l, 1));
     let wide = unsigned16(output::pcm_to_i16(sample));
     let d8 = output::pcm_to_dac_u8(sample);
     let d12 = output::pcm_to_dac_u12(sample);
@@ -81,7 +79,7 @@ pub(crate) fn conversions(l: &[u8]) -> Reply
 pub(crate) fn conversion_to_i32(l: &[u8]) -> Reply
     ensures { λ r. ⌜ r ≡ conversion32Reply (now (l .entry)) ⌝ }
 {
-    let value = unsigned32(output::pcm_to_i32(signed8(byte_at(l, 1))));
+    let value = unsigned32(output::pcm_to_i32(fixed::as_i8(byte_at(l, 1))));
     Reply::Word {
         value: value as u64,
         digits: 8,

@@ -15,7 +15,6 @@ use crate::hex::long_at;
 use crate::hex::put;
 use crate::hex::put_four;
 use crate::hex::put_line;
-use crate::hex::signed8;
 use crate::hex::signed32;
 use crate::hex::unsigned32;
 use crate::hex::wide_at;
@@ -216,7 +215,7 @@ fn map_all(
     let mut left = count;
     while left > 0 {
         let m = last.mapper;
-        last = m.map(signed8(byte_at(l, k)), period);
+        last = m.map(fixed::as_i8(byte_at(l, k)), period);
         next = put(out, next, last.duty as u64, 4);
         k += 1;
         left -= 1;

@@ -14,7 +14,6 @@ use crate::hex::long_at;
 use crate::hex::put;
 use crate::hex::put_line;
 use crate::hex::three_at;
-use crate::hex::unsigned8;
 use crate::hex::wide_at;
 use crate::states::put_source;
 use fixed::Given;
@@ -104,7 +103,7 @@ pub(crate) fn given_number(g: Given) -> u64
     ensures { λ r. ⌜ r ≡ givenNumber g ⌝ }
 {
     match g {
-        Given::Sample(s) => unsigned8(s) as u64,
+        Given::Sample(s) => fixed::as_u8(s) as u64,
         Given::None => 256,
     }
 }

@@ -15,7 +15,6 @@ use crate::hex::put;
 use crate::hex::put_four;
 use crate::hex::put_line;
 use crate::hex::three_at;
-use crate::hex::unsigned8;
 use crate::hex::wide_at;
 use crate::runs::put_adsr;
 use crate::runs::spec_at;
@@ -127,7 +126,7 @@ fn left_number(g: StereoGiven) -> u64
     ensures { λ r. ⌜ r ≡ leftNumber g ⌝ }
 {
     match g {
-        StereoGiven::Pair(left, _) => unsigned8(left) as u64,
+        StereoGiven::Pair(left, _) => fixed::as_u8(left) as u64,
         StereoGiven::None => 256,
     }
 }
@@ -136,7 +135,7 @@ fn right_number(g: StereoGiven) -> u64
     ensures { λ r. ⌜ r ≡ rightNumber g ⌝ }
 {
     match g {
-        StereoGiven::Pair(_, right) => unsigned8(right) as u64,
+        StereoGiven::Pair(_, right) => fixed::as_u8(right) as u64,
         StereoGiven::None => 0,
     }
 }

@@ -9,7 +9,7 @@ use Rattle.script.proofs.leaves.gain.Tie as tie
 returns : tie.Need-returns
 unfolding gainReply
 returns c =
-    let s = c .before .before .before .signed8 in
+    let s = c .before .before .before .as-i8 in
     let g = c .before .apply-gain-q8 in
     cc (back w8 (s .result) (s .ok), back w8 (g .result) (g .ok))
 

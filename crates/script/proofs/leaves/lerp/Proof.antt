@@ -9,8 +9,8 @@ use Rattle.script.proofs.leaves.lerp.Tie as tie
 returns : tie.Need-returns
 unfolding lerpReply
 returns c =
-    let a = c .before .before .before .before .before .signed8 in
-    let b = c .before .before .before .signed82 in
+    let a = c .before .before .before .before .before .as-i8 in
+    let b = c .before .before .before .as-i82 in
     let r = c .before .lerp-i8 in
     cc (back w8 (a .result) (a .ok), back w8 (b .result) (b .ok), back w8 (r .result) (r .ok))
 

@@ -9,7 +9,7 @@ use Rattle.script.proofs.outputs.conversion_to_i32.Tie as tie
 returns : tie.Need-returns
 unfolding conversion32Reply
 returns c =
-    let s = c .before .before .signed8 in
+    let s = c .before .before .as-i8 in
     let r = c .before .pcm-to-i32 in
     cc (back w8 (s .result) (s .ok), back w32 (r .result) (r .ok))
 

@@ -10,7 +10,7 @@ returns : tie.Need-returns
 unfolding conversionsReply
 returns c =
     let b = c .before .before .before .before in
-    let s = b .before .signed8 in
+    let s = b .before .as-i8 in
     let r = b .pcm-to-i16 in
     cc (back w8 (s .result) (s .ok), back w16 (r .result) (r .ok))
 

@@ -7,7 +7,7 @@ use Rattle.script.proofs.Bits.{back}
 use Rattle.script.proofs.outputs.duty.Statement.{statement}
 use Rattle.script.proofs.outputs.duty.Tie as tie
 
-known : (c : tie.After-new) → dutyReply (c .before .before .before .before .before .args .l .now) ≡ dutyAnswer (c .before .before .signed8 .result) (c .new .result)
+known : (c : tie.After-new) → dutyReply (c .before .before .before .before .before .args .l .now) ≡ dutyAnswer (c .before .before .as-i8 .result) (c .new .result)
 unfolding dutyReply
 known c = let m = c .new .ensures .same in cc
 
@@ -17,7 +17,7 @@ pcm-to-duty-requires c κs = rw (c .before .period .given .1) at (c .before .bef
 returns : tie.Need-returns
 returns c =
     let b = c .before .before .before .before in
-    sym (known b ∙ rw (c .before .before .period .given .1, c .pcm-to-duty .ensures, back w8 (b .before .before .signed8 .result) (b .before .before .signed8 .ok)))
+    sym (known b ∙ rw (c .before .before .period .given .1, c .pcm-to-duty .ensures, back w8 (b .before .before .as-i8 .result) (b .before .before .as-i8 .ok)))
 
 returns-2 : tie.Need-returns-2
 returns-2 c =

@@ -14,7 +14,7 @@ known c = let s = c .before .signed32 in cc (back w32 (s .result) (s .ok))
 returns : tie.Need-returns
 returns c =
     let b = c .before .before .before .before in
-    sym (known b ∙ rw (c .before .before .limited .given .1, c .unsigned8 .ensures, back w8 (c .before .before .limited .given .0 .0) (c .before .known-told .given .0 .1)))
+    sym (known b ∙ rw (c .before .before .limited .given .1, c .as-u8 .ensures, back w8 (c .before .before .limited .given .0 .0) (c .before .known-told .given .0 .1)))
 
 returns-2 : tie.Need-returns-2
 returns-2 c =

@@ -23,7 +23,7 @@ abbrev μ-loop : tie.MeasureT-loop
 loop-again : tie.Need-loop-again Inv-loop μ-loop
 loop-again c =
     let m = c .before .before .before in
-    let s = m .before .signed8 in
+    let s = m .before .as-i8 in
     let t = m .before .before .before .before in
     let h = t .before .loop in
     let a = t .before .before .before .args in

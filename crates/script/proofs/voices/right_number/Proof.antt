@@ -9,7 +9,7 @@ returns : tie.Need-returns
 returns c =
     let b1 = c .before in
     let b2 = b1 .before in
-    rw (b2 .g .given .1, c .unsigned8 .ensures, back w8 (b2 .g .given .0 .1 .0) (b1 .known-told .given .1 .0 .1))
+    rw (b2 .g .given .1, c .as-u8 .ensures, back w8 (b2 .g .given .0 .1 .0) (b1 .known-told .given .1 .0 .1))
 
 returns-2 : tie.Need-returns-2
 returns-2 c = rw (c .enum-told .given .1)

@@ -1,5 +1,5 @@
 -- Lemmas that more than one crate cites.
---     Bools     a Bool test and what it tells: never, ltZ-true, ltZ-false, eq-read, ne-read
+--     Bools     a Bool test and what it tells: never
 --     Signed    sizes of signed numbers, by which a value fits its width: abs≤, abs-fits, add≤, sub≤, mul≤, abs-quot, neg-fits,
 --               sub-fits, sub-bounds, sub-size, mul-fits, modulo-bits, mag-shr, mag-add, mag-fits; signs: pos-sub, neg-sub, sub-neg,
 --               neg-mul, neg-quot, zero-sub, sub-flip; the rule set `signed` for goals under toZ and ofZ

@@ -7,7 +7,8 @@
 --     Wrap      what wrap32 gives: wrap-id for what fits, wrap-low and wrap-high for a lap more or less
 --     Made      a value that is x, which is valid, is Made: made
 --     Finite    a rule over all numbers below a bound by one computed test: below, between, same-at, fits-at, i8
---     Lists     runs of stores: sets-append, sets-last
+--     Lists     runs of stores: sets-append, sets-last; loops over the first n: drop-take-cons, drop-take-end, mapFirst-step, length-mapFirst,
+--               drop-mapFirst, take-mapFirst, mapFirst-same; getD-any; what holds of each: all-set, all-get, all-mapFirst, all-map, all-imp, all-take, all-replicate
 --     F32       float tests as facts about numbers: or-le, nor-lt, le-or, or-ge, nor-gt; cut quotients: cut-ge, cut-lt;
 --               literals: zero-is, one-is
 --     Rounding  what rounding gives: nonNeg, not-below-zero, round-nonNeg, round-up, round-down; a float is what its own fraction rounds to: own

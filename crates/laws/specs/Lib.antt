@@ -1,7 +1,9 @@
 -- What every crate's definitions are written in.
 --     Whole    whole numbers as document 01 divides, holds and wraps them: floorDiv, truncDiv, modulo, heldTo, wrap32
 --     F32      binary32: the four operations as ⊕ ⊖ ⊗ ⊘, a literal as a rounded fraction, holding to a range
+--     Lists    what is said of a list's elements: All, mapFirst, only
 --     Made     Made Valid x r: the value r that a call gives is x, and Valid
 pub mod Whole
 pub mod F32
+pub mod Lists
 pub mod Made

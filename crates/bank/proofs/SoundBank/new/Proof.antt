@@ -1,0 +1,27 @@
+-- `bank::SoundBank::new` meets its contract: its tests are the definition's, in its order.
+use borrow.Author.Needs.{needs}
+use borrow.Author.Tests.{lt-ltb, le-ltb}
+use native.Mathlib.Omega.{arith}
+use Rattle.bank.specs.Entries.{placeOf}
+use Rattle.bank.specs.Banks.{bankOf, holding}
+use Rattle.bank.proofs.SoundBank.new.Statement.{statement}
+use Rattle.bank.proofs.SoundBank.new.Tie as tie
+
+returns : tie.Need-returns
+unfolding bankOf holding
+returns c = let a = c .before .args in rw (lt-ltb 65537 (a .sample-rate-hz) (omega arith))
+
+returns-2 : tie.Need-returns-2
+unfolding bankOf holding
+returns-2 c =
+    let a = c .before .before .args in
+    rw (le-ltb 65537 (a .sample-rate-hz) (omega arith), lt-ltb (a .len) (placeOf (a .effect-count)) (omega arith))
+
+returns-3 : tie.Need-returns-3
+unfolding bankOf holding
+returns-3 c =
+    let a = c .before .before .args in
+    rw (le-ltb 65537 (a .sample-rate-hz) (omega arith), le-ltb (a .len) (placeOf (a .effect-count)) (omega arith))
+
+pub new-spec : {M : Type 1} → statement M
+new-spec = tie.close (tie.spec (λ c. search needs) (λ c. search needs) returns returns-2 returns-3)

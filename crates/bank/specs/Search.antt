@@ -1,0 +1,60 @@
+-- Document 01, "Bank": "`find_by_id` halves between 0 and count − 1, middle floored, and answers the first hit; failing that, it
+-- reads every entry from 0." "In the search, whichever row is met first along its path is given." Assumes nothing.
+use Prim.Native.Nat.{ℕ, zero, suc, _+_, _-_, _/_}
+use mathlib.Core.Bool.{cond}
+use mathlib.Core.List.{List, [], _∷_, _++_}
+use lib.Dec.{eqb, ltb}
+use lib.ListN.{length}
+use Rattle.error.specs.declared.AudioError.the-variants as E
+use Rattle.bank.specs.declared.BankSet.{BankSet}
+use Rattle.bank.specs.declared.BankRead.{BankRead}
+use Rattle.bank.specs.declared.BankRead.the-variants as B
+use Rattle.bank.specs.declared.EntryRead.{EntryRead}
+use Rattle.bank.specs.declared.EntryRead.the-variants as R
+use Rattle.bank.specs.Entries.{idAt, entryAt}
+use Rattle.bank.specs.Banks.{lentBank}
+
+-- The places that halving probes among low, .. low + size − 1: the middle, low + (size − 1) / 2, which is the floor of
+-- (low + high) / 2; then those on its right where its id is below the one looked for, else those on its left.
+-- Each half is smaller than the whole, so a fuel of size is enough.
+unfoldable pub halving : List ℕ → ℕ → ℕ → ℕ → ℕ → List ℕ
+halving bytes id zero low size = []
+halving bytes id (suc fuel) low zero = []
+halving bytes id (suc fuel) low (suc others) =
+    (low + others / 2)
+    ∷ cond (ltb (idAt bytes (low + others / 2)) id)
+    (halving bytes id fuel (suc (low + others / 2)) (others - others / 2))
+    (halving bytes id fuel low (others / 2))
+
+-- n places from one on, and "every entry from 0"
+unfoldable pub countFrom : ℕ → ℕ → List ℕ
+countFrom i zero = []
+countFrom i (suc n) = i ∷ countFrom (suc i) n
+
+abbrev pub upTo : ℕ → List ℕ
+upTo count = countFrom 0 count
+
+-- an entry that was read: a refusal ends the search, a hit answers it, else the others answer
+abbrev pub orElse : ℕ → EntryRead → EntryRead → EntryRead
+orElse id (R.Refused e) others = R.Refused e
+orElse id (R.Entry e) others = cond (eqb (e .id) id) (R.Entry e) others
+
+-- the entries read in this order: "whichever row is met first along its path is given"; 8 `EffectNotFound` where "no entry has the id"
+unfoldable pub decided : List ℕ → ℕ → List ℕ → EntryRead
+decided bytes id [] = R.Refused E.EffectNotFound
+decided bytes id (i ∷ rest) = orElse id (entryAt bytes i) (decided bytes id rest)
+
+-- the search among count entries. After a hit the places may go on; the first one that decides counts.
+unfoldable pub foundIn : List ℕ → ℕ → ℕ → EntryRead
+foundIn bytes count id = decided bytes id (halving bytes id count 0 count ++ upTo count)
+
+abbrev pub foundOf : BankRead → List ℕ → ℕ → EntryRead
+foundOf (B.Refused e) bytes id = R.Refused e
+foundOf (B.Bank b) bytes id = foundIn bytes (b .«effect_count») id
+
+abbrev pub foundGiven : BankSet → List ℕ → ℕ → EntryRead
+foundGiven bank bytes id = foundOf (lentBank bank (length bytes)) bytes id
+
+-- what a loop of the search gives: the place that decides, or count where none does and the others answer
+abbrev pub settled : List ℕ → ℕ → ℕ → EntryRead → EntryRead
+settled bytes count i others = cond (ltb i count) (entryAt bytes i) others

@@ -1,0 +1,242 @@
+// Bank lookup. A bank's rate, count and length are kept; its bytes are lent to each call.
+ghost use mathlib.Core.Path.{_≡_};
+ghost use mathlib.Core.List.{[]};
+ghost use Prim.Native.Nat.{_+_, _≤_, _<_};
+ghost use lib.ListN.{length};
+ghost use Rattle.bank.specs.Entries.{wideAt, longAt, placeOf, entryAt};
+ghost use Rattle.bank.specs.Banks.{bankOf, lentBank, entryGiven, payloadGiven, payloadPart};
+ghost use Rattle.bank.specs.Search.{upTo, decided, foundIn, foundGiven, settled};
+use error::AudioError;
+use tier::EffectKind;
+use tier::KindRead;
+
+const HEADER_SIZE: usize = 10;
+
+const ENTRY_SIZE: usize = 16;
+
+const LAST_KIND: u8 = 5;
+
+pub struct EffectEntry {
+    pub id: u16,
+    pub kind: EffectKind,
+    pub flags: u8,
+    pub default_gain_q8: u8,
+    pub param0: u16,
+    pub param1: u16,
+    pub offset: u32,
+    pub len: u32,
+}
+
+pub enum EntryRead {
+    Entry(EffectEntry),
+    Refused(AudioError),
+}
+
+// What is kept of a bank.
+pub struct SoundBank {
+    pub sample_rate_hz: u32,
+    pub effect_count: u16,
+    pub len: usize,
+}
+
+// The source's `Option<SoundBank>`.
+pub enum BankSet {
+    None,
+    Bank(SoundBank),
+}
+
+pub enum BankRead {
+    Bank(SoundBank),
+    Refused(AudioError),
+}
+
+pub enum PayloadRead {
+    Whole,
+    Refused(AudioError),
+}
+
+impl SoundBank {
+    pub fn new(sample_rate_hz: u32, effect_count: u16, len: usize) -> BankRead
+        ensures { λ r. ⌜ r ≡ bankOf «sample_rate_hz» «effect_count» len ⌝ }
+    {
+        let end = HEADER_SIZE + ENTRY_SIZE * (effect_count as usize);
+        if sample_rate_hz > 65537 {
+            return BankRead::Refused(AudioError::BadRate);
+        }
+        if end > len {
+            return BankRead::Refused(AudioError::TruncatedBank);
+        }
+        BankRead::Bank(SoundBank {
+            sample_rate_hz,
+            effect_count,
+            len,
+        })
+    }
+}
+
+// The checks in front of every lookup. A bank that `SoundBank::new` never gave can say more entries than its bytes hold: 4 here too.
+pub fn lent_bank(bank: BankSet, lent: usize) -> BankRead
+    ensures { λ r. ⌜ r ≡ lentBank bank lent ⌝ }
+{
+    match bank {
+        BankSet::None => BankRead::Refused(AudioError::NoBank),
+        BankSet::Bank(b) => {
+            if lent != b.len {
+                return BankRead::Refused(AudioError::BankMismatch);
+            }
+            if HEADER_SIZE + ENTRY_SIZE * (b.effect_count as usize) > lent {
+                BankRead::Refused(AudioError::TruncatedBank)
+            } else {
+                BankRead::Bank(b)
+            }
+        }
+    }
+}
+
+// Little-endian numbers of two bytes and four.
+fn wide_at(bytes: &[u8], k: usize) -> u16
+    requires { ⌜ k + 1 < length (now bytes) ⌝ }
+    ensures { λ r. ⌜ r ≡ wideAt (now (bytes .entry)) k ⌝ }
+{
+    let low = bytes[k];
+    let high = bytes[k + 1];
+    (low as u16) + 256 * (high as u16)
+}
+
+fn long_at(bytes: &[u8], k: usize) -> u32
+    requires { ⌜ k + 3 < length (now bytes) ⌝ }
+    ensures { λ r. ⌜ r ≡ longAt (now (bytes .entry)) k ⌝ }
+{
+    (wide_at(bytes, k) as u32) + 65536 * (wide_at(bytes, k + 2) as u32)
+}
+
+// Entry i, its kind byte checked first.
+fn read_at(bytes: &[u8], i: usize) -> EntryRead
+    requires { ⌜ placeOf i + 16 ≤ length (now bytes) ⌝ }
+    ensures { λ r. ⌜ r ≡ entryAt (now (bytes .entry)) i ⌝ }
+{
+    let k = HEADER_SIZE + ENTRY_SIZE * i;
+    match EffectKind::from_u8(bytes[k + 2]) {
+        KindRead::Unknown => EntryRead::Refused(AudioError::InvalidEffectKind),
+        KindRead::Kind(kind) => EntryRead::Entry(EffectEntry {
+            id: wide_at(bytes, k),
+            kind,
+            flags: bytes[k + 3],
+            default_gain_q8: bytes[k + 4],
+            param0: wide_at(bytes, k + 6),
+            param1: wide_at(bytes, k + 8),
+            offset: long_at(bytes, k + 10),
+            len: wide_at(bytes, k + 14) as u32,
+        }),
+    }
+}
+
+pub fn entry(bank: BankSet, bytes: &[u8], index: usize) -> EntryRead
+    ensures { λ r. ⌜ r ≡ entryGiven bank (now (bytes .entry)) index ⌝ }
+{
+    match lent_bank(bank, bytes.len()) {
+        BankRead::Refused(e) => EntryRead::Refused(e),
+        BankRead::Bank(b) => {
+            if index >= (b.effect_count as usize) {
+                return EntryRead::Refused(AudioError::EffectNotFound);
+            }
+            read_at(bytes, index)
+        }
+    }
+}
+
+// The first place at which the halving ends, by a hit or by a kind byte above 5; count where it ends at none. It reads three
+// bytes of a place, and the caller the whole entry.
+fn halve(bytes: &[u8], count: usize, id: u16) -> usize
+    requires { ⌜ placeOf count ≤ length (now bytes) ⌝ }
+    ensures { λ r. ⌜ foundIn (now (bytes .entry)) count id ≡ settled (now (bytes .entry)) count r (decided (now (bytes .entry)) id (upTo count)) ⌝ }
+{
+    let mut low: usize = 0;
+    let mut size = count;
+    while size > 0 {
+        let half = (size - 1) / 2;
+        let mid = low + half;
+        let k = HEADER_SIZE + ENTRY_SIZE * mid;
+        if bytes[k + 2] > LAST_KIND {
+            return mid;
+        }
+        let here = wide_at(bytes, k);
+        if here == id {
+            return mid;
+        }
+        if here < id {
+            low = mid + 1;
+            size = size - 1 - half;
+        } else {
+            size = half;
+        }
+    }
+    count
+}
+
+// The same over every entry from 0.
+fn scan(bytes: &[u8], count: usize, id: u16) -> usize
+    requires { ⌜ placeOf count ≤ length (now bytes) ⌝ }
+    ensures { λ r. ⌜ decided (now (bytes .entry)) id (upTo count) ≡ settled (now (bytes .entry)) count r (decided (now (bytes .entry)) id []) ⌝ }
+{
+    let mut i: usize = 0;
+    while i < count {
+        let k = HEADER_SIZE + ENTRY_SIZE * i;
+        if bytes[k + 2] > LAST_KIND {
+            return i;
+        }
+        if wide_at(bytes, k) == id {
+            return i;
+        }
+        i += 1;
+    }
+    count
+}
+
+pub fn find_by_id(bank: BankSet, bytes: &[u8], id: u16) -> EntryRead
+    ensures { λ r. ⌜ r ≡ foundGiven bank (now (bytes .entry)) id ⌝ }
+{
+    match lent_bank(bank, bytes.len()) {
+        BankRead::Refused(e) => EntryRead::Refused(e),
+        BankRead::Bank(b) => {
+            let count = b.effect_count as usize;
+            let mid = halve(bytes, count, id);
+            if mid < count {
+                return read_at(bytes, mid);
+            }
+            let i = scan(bytes, count, id);
+            if i < count {
+                return read_at(bytes, i);
+            }
+            EntryRead::Refused(AudioError::EffectNotFound)
+        }
+    }
+}
+
+// A payload's number, and the payload: the very part of the bytes lent, empty where it is refused.
+pub fn payload_number(bank: BankSet, bytes: &[u8], offset: u32, len: u32) -> PayloadRead
+    ensures { λ r. ⌜ r ≡ payloadGiven bank (now (bytes .entry)) offset len ⌝ }
+{
+    match lent_bank(bank, bytes.len()) {
+        BankRead::Refused(e) => PayloadRead::Refused(e),
+        BankRead::Bank(_) => {
+            if (offset as usize) + (len as usize) > bytes.len() {
+                return PayloadRead::Refused(AudioError::TruncatedBank);
+            }
+            PayloadRead::Whole
+        }
+    }
+}
+
+pub fn payload(bank: BankSet, bytes: &[u8], offset: u32, len: u32) -> &[u8]
+    ensures { λ r. ⌜ now r ≡ payloadPart bank (now (bytes .entry)) offset len ⌝ }
+{
+    match payload_number(bank, bytes, offset, len) {
+        PayloadRead::Refused(_) => &bytes[0..0],
+        PayloadRead::Whole => {
+            let start = offset as usize;
+            let end = start + (len as usize);
+            &bytes[start..end]
+        }
+    }
+}

@@ -4,9 +4,10 @@ use mathlib.Core.Bool.{Bool, true, false, cond, _||_}
 use Prim.Native.Nat.{ℕ, zero, suc, _+_, _-_, _*_, _/_, _≤_, _<_}
 use native.Mathlib.Nat.{div-le-of-le-mul, le-div-iff-mul-le, zero-mul, mul-zero}
 use native.Mathlib.Omega.{arith}
-use borrow.Author.Tests.{eq-eqb, ne-eqb}
+use borrow.Author.Tests.{eq-eqb, ne-eqb, le-ltb}
 use lib.Dec.{eqb}
-use Rattle.config.specs.Config.{roundedUp, stepOf}
+use Rattle.config.specs.Config.{roundedUp, stepOf, fadeStep}
+use Rattle.config.specs.declared.FadeStep.the-variants.{Step}
 
 -- 255 ÷ m rounded up is 1..255
 pub up-least : (m : ℕ) → 0 < m → 1 ≤ roundedUp 255 m
@@ -45,3 +46,8 @@ step-least ms rate = by-sample ms rate _ refl .0
 
 pub step-most : (ms rate : ℕ) → stepOf ms rate ≤ 255
 step-most ms rate = by-sample ms rate _ refl .1
+
+-- at an engine's rate there is a step
+pub step-given : (ms rate : ℕ) → rate ≤ 65537 → fadeStep ms rate ≡ Step (stepOf ms rate)
+unfolding fadeStep
+step-given ms rate h = rw (le-ltb 65537 rate h)

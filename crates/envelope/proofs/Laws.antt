@@ -56,6 +56,18 @@ valid-triggered {a} h = by-test (eqb (attackLength a) 0) refl
     by-test true e = valid-beganDecay b (h .rate) (h .times)
     by-test false e = record { rate = h .rate; times = h .times; counts = λ i. first (eqb-false _ 0 e) (samples≤ (h .times .attack) (h .rate)) }
 
+-- a triggered envelope is not idle, whatever its lengths
+pub triggered-active : (a : Adsr) → active (triggered a) ≡ true
+unfolding triggered beganDecay active
+triggered-active a = by-test (eqb (attackLength a) 0) (eqb (decayLength a) 0)
+  where
+    by-test : (t u : Bool) → activeIn
+        (cond t (cond u (inPhase a P.Sustain (a .spec .«sustain_q8») 0 0) (inPhase a P.Decay 0 0 (decayLength a))) (inPhase a P.Attack 0 0 (attackLength a)) .phase)
+        ≡ true
+    by-test true true = refl
+    by-test true false = refl
+    by-test false u = refl
+
 -- "Release from idle does nothing"
 pub released-inactive : {a : Adsr} → active a ≡ false → released a ≡ a
 unfolding released

@@ -8,7 +8,24 @@ use Rattle.envelope.specs.Adsrs.{idleAdsr, triggered, ticked, beganDecay, advan
 use Rattle.fm.specs.Fm.{tableSine, tableSample, offsetOf, startedFm, fmSample}
 use Rattle.output.specs.Duty.{duty}
 use Rattle.output.proofs.Laws.{duty-of-2}
-use Rattle.examples.specs.Examples.{Examples, levels, fours}
+use mathlib.Core.Option.{some, orElse}
+use Rattle.allocate.specs.Allocation.{allocated}
+use Rattle.bank.specs.Banks.{holding, bankOf, lentBank, payloadGiven}
+use Rattle.bank.specs.Entries.{fieldsAt, entryAt}
+use Rattle.bank.specs.Search.{halving, countFrom, decided, foundIn}
+use Rattle.engine.specs.Requests.{playedAll, priorities}
+use Rattle.envelope.specs.Adsrs.{active}
+use Rattle.laws.specs.Lists.{only}
+use Rattle.mixer.specs.Mixers.{opened, fresh, banked}
+use Rattle.play.specs.Plays.{played}
+use Rattle.ranking.specs.Falling.{inserted, falling}
+use Rattle.ranking.specs.Rule.{firstWhere, noneBelow, firstFree, firstLowest, lowestPriority}
+use Rattle.start.specs.Starts.{startedVoice, startAt, entryStart, requestStart}
+use Rattle.tier.specs.Kinds.{kindOf}
+use Rattle.tone.specs.Tones.{startedTone}
+use Rattle.voice.specs.Sources.{activeSource, startedEntry}
+use Rattle.voice.specs.Voices.{silentVoice, triggeredVoice, audible}
+use Rattle.examples.specs.Examples.{Examples, levels, fours, bell, twoVoices, ringing, handings}
 
 envelope : levels 8 (triggered (idleAdsr fours 1000)) ≡ 63 ∷ 159 ∷ 231 ∷ 255 ∷ 192 ∷ 96 ∷ 24 ∷ 0 ∷ []
 unfolding ticked triggered beganDecay advancedToward nextLevel
@@ -22,6 +39,12 @@ duties : map (λ (s : ℤ). duty s 1000) (pos 127 ∷ pos 0 ∷ negsuc 127 ∷ [
 unfolding duty heldTo
 duties = refl
 
+requests :
+    (handings twoVoices bell (ringing (3 ∷ 5 ∷ 5 ∷ 7 ∷ [])) ≡ some 0 ∷ some 1 ∷ some 0 ∷ some 0 ∷ [])
+    × (falling (priorities (playedAll twoVoices bell (ringing (3 ∷ 5 ∷ 5 ∷ 7 ∷ [])))) ≡ 7 ∷ 5 ∷ [])
+unfolding opened fresh banked bankOf holding played playedAll allocated lowestPriority firstFree firstLowest firstWhere noneBelow orElse requestStart foundIn lentBank decided halving countFrom entryAt fieldsAt kindOf entryStart payloadGiven startAt startedEntry startedVoice triggeredVoice silentVoice audible activeSource active triggered beganDecay startedTone only falling inserted
+requests = (refl, refl)
+
 pub holds : Examples
 holds =
     record {
@@ -34,4 +57,6 @@ holds =
       pan = refl;
       duties = duties;
       least = duty-of-2;
+      handed = requests .0;
+      remain = requests .1;
     }

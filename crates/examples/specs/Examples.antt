@@ -2,6 +2,7 @@
 use Prim.Native.Nat.{ℕ, zero, suc}
 use mathlib.Core.Path.{_≡_}
 use mathlib.Core.List.{List, [], _∷_, map}
+use mathlib.Core.Option.{Option, some}
 use lib.IntN.{ℤ, pos, negsuc}
 use Rattle.envelope.specs.declared.AdsrSpec.{AdsrSpec}
 use Rattle.envelope.specs.declared.Adsr.{Adsr}
@@ -10,6 +11,16 @@ use Rattle.fixed.specs.declared.PanGains.{PanGains}
 use Rattle.fixed.specs.Fixed.{increment, sine, gained, panGains, limited}
 use Rattle.fm.specs.Fm.{startedFm, fmSample}
 use Rattle.output.specs.Duty.{duty}
+use Rattle.output.specs.declared.DutyMode.the-variants as D
+use Rattle.config.specs.Config.{configured}
+use Rattle.envelope.specs.Adsrs.{clickSpec}
+use Rattle.mixer.specs.Mixers.{opened, banked}
+use Rattle.mixer.specs.declared.VoiceStealingPolicy.the-variants as P
+use Rattle.ranking.specs.Falling.{falling}
+use Rattle.start.specs.declared.Request.{Request}
+use Rattle.engine.specs.Engines.{boxed, requestOf}
+use Rattle.engine.specs.Requests.{playing, handedOut, playedAll, priorities}
+use Rattle.engine.specs.declared.AudioEngine.{AudioEngine}
 
 -- the levels after each of n ticks
 abbrev pub levels : ℕ → Adsr → List ℕ
@@ -22,6 +33,25 @@ fours = record { «attack_ms» = 4; «decay_ms» = 4; «sustain_q8» = 0; «rele
 
 abbrev pub gains : ℕ → ℕ → PanGains
 gains l r = record { left = l; right = r }
+
+-- a bank of one entry: ten bytes, then id 7, kind 0, gain 255, 440 Hz for 0 ms, no payload
+abbrev pub bell : List ℕ
+bell =
+    0 ∷ 0 ∷ 0 ∷ 0 ∷ 0 ∷ 0 ∷ 0 ∷ 0 ∷ 0 ∷ 0
+    ∷ 7 ∷ 0 ∷ 0 ∷ 0 ∷ 255 ∷ 0 ∷ 184 ∷ 1 ∷ 0 ∷ 0 ∷ 0 ∷ 0 ∷ 0 ∷ 0 ∷ 0 ∷ 0 ∷ []
+
+-- two silent voices and that bank
+abbrev pub twoVoices : AudioEngine
+twoVoices = boxed (banked (opened 2 (configured 16000 1000 D.Linear) P.LowestPriorityOldest .mixer) 8000 1 26 .mixer)
+
+-- requests for the bell at these priorities, in this order
+abbrev pub ringing : List ℕ → List Request
+ringing ps = map (λ p. requestOf 7 clickSpec p) ps
+
+-- the voice that each is handed
+abbrev pub handings : AudioEngine → List ℕ → List Request → List (Option ℕ)
+handings e bytes [] = []
+handings e bytes (r ∷ rs) = handedOut e bytes r ∷ handings (playing e bytes r .engine) bytes rs
 
 pub record Examples : Type 0 where
   -- "attack of 4 samples: 63, 159, 231, 255", then "decay of 4 from 255 to 0: 192, 96, 24, 0"
@@ -42,3 +72,6 @@ pub record Examples : Type 0 where
   pub duties : map (λ (s : ℤ). duty s 1000) (pos 127 ∷ pos 0 ∷ negsuc 127 ∷ []) ≡ 999 ∷ 500 ∷ 1 ∷ []
   -- "period 2: always 1"
   pub least : (s : ℤ) → duty s 2 ≡ 1
+  -- "two silent voices, requests 3, 5, 5, 7: voices 0, 1, 0, 0; priorities 7 and 5 remain"
+  pub handed : handings twoVoices bell (ringing (3 ∷ 5 ∷ 5 ∷ 7 ∷ [])) ≡ some 0 ∷ some 1 ∷ some 0 ∷ some 0 ∷ []
+  pub remain : falling (priorities (playedAll twoVoices bell (ringing (3 ∷ 5 ∷ 5 ∷ 7 ∷ [])))) ≡ 7 ∷ 5 ∷ []

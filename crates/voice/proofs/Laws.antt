@@ -1,14 +1,16 @@
 -- Each definition keeps a source and a voice valid. Assumes nothing.
-use mathlib.Core.Path.{_≡_, refl}
-use mathlib.Core.Bool.{Bool, true, false, cond}
+use mathlib.Core.Path.{_≡_, refl, sym}
+use mathlib.Core.Bool.{Bool, true, false, cond, or-true, _||_}
 use Prim.Native.Nat.{ℕ, _≤_}
 use native.Mathlib.Omega.{arith}
 use Rattle.envelope.specs.declared.Adsr.{Adsr}
 use Rattle.envelope.specs.declared.AdsrSpec.{AdsrSpec}
 use Rattle.envelope.specs.Adsrs as A
+use Rattle.fixed.specs.declared.Given.the-variants as G
+use Rattle.laws.proofs.Bools.{never}
 use Rattle.envelope.proofs.Laws as E
 use Rattle.polyblep.proofs.Laws as B
-use Rattle.voice.specs.Sources.{ValidSource, ValidStep, ValidStarted, steppedSource, startedEntry}
+use Rattle.voice.specs.Sources.{activeSource, ValidSource, ValidStep, ValidStarted, steppedSource, startedEntry}
 use Rattle.voice.specs.Voices.{Valid, sounding, silentVoice, triggeredVoice, releasedVoice, stoppedVoice, audible, tickedVoice, steppedVoice}
 use Rattle.tier.specs.declared.EffectKind.{EffectKind}
 use Rattle.tier.specs.declared.EffectKind.the-variants as K
@@ -71,3 +73,28 @@ valid-ticked {v} h = go (audible (sounding v (v .source) (A.ticked (v .adsr))))
 pub valid-stepped : {v : Voice} → Valid v → Valid (steppedVoice v .voice)
 unfolding steppedVoice
 valid-stepped {v} h = valid-sounding h (valid-source-stepped (v .source) (h .source)) (h .adsr)
+
+-- a voice whose envelope is triggered can be heard
+pub triggered-audible : (v : Voice) (spec : AdsrSpec) → audible (triggeredVoice v spec) ≡ true
+unfolding triggeredVoice audible
+triggered-audible v spec = rw (E.triggered-active (A.idleAdsr spec (v .«sample_rate_hz»))) (or-true (activeSource (v .source)))
+
+pub triggered-priority : (v : Voice) (spec : AdsrSpec) → triggeredVoice v spec .priority ≡ v .priority
+unfolding triggeredVoice
+triggered-priority v spec = refl
+
+-- ---- silence: what cannot be heard is not heard after a tick, and gives no sample
+pub or-false : (a b : Bool) → (a || b) ≡ false → (a ≡ false) × (b ≡ false)
+or-false true b e = never (sym e)
+or-false false b e = (refl, e)
+
+pub ticked-silent : (v : Voice) → audible v ≡ false → (audible (tickedVoice v) ≡ false) × (tickedVoice v .source ≡ S.Idle)
+unfolding tickedVoice audible activeSource
+ticked-silent v e =
+    let h = or-false (activeSource (v .source)) (A.active (v .adsr)) e in
+    let t : A.ticked (v .adsr) ≡ v .adsr = E.ticked-inactive (h .1) in
+    rw (t, e) (h .1, refl)
+
+pub stepped-idle : (v : Voice) → v .source ≡ S.Idle → (steppedVoice v .given ≡ G.None) × (steppedVoice v .voice ≡ v)
+unfolding steppedVoice steppedSource
+stepped-idle v e = (rw e, rw e)

@@ -1,0 +1,62 @@
+// Which voice a request gets.
+ghost use mathlib.Core.Path.{_≡_};
+ghost use Prim.Native.Nat.{_≤_};
+ghost use lib.ListN.{take};
+ghost use Rattle.ranking.specs.Rule.{firstFree, firstLowest};
+ghost use Rattle.voice.specs.Voices.{audible};
+ghost use Rattle.mixer.specs.Mixers.{Valid};
+ghost use Rattle.allocate.specs.Allocation.{placeOf, priorityOf, allocated};
+use mixer::Mixer;
+use mixer::VoiceStealingPolicy;
+use voice::Voice;
+
+pub enum Allocated {
+    Voice(usize),
+    None,
+}
+
+fn first_free(voices: [Voice; 16], n: usize) -> Allocated
+    requires { ⌜ n ≤ 16 ⌝ }
+    ensures { λ r. ⌜ r ≡ placeOf (firstFree audible (take n voices)) ⌝ }
+{
+    for i in 0..n {
+        let v = voices[i];
+        if !v.is_audible() {
+            return Allocated::Voice(i);
+        }
+    }
+    Allocated::None
+}
+
+fn first_lowest(voices: [Voice; 16], n: usize, priority: u8) -> Allocated
+    requires { ⌜ n ≤ 16 ⌝ }
+    ensures { λ r. ⌜ r ≡ placeOf (firstLowest priorityOf (take n voices) priority) ⌝ }
+{
+    let mut best = Allocated::None;
+    let mut lowest = priority;
+    for i in 0..n {
+        let v = voices[i];
+        if v.priority < lowest {
+            lowest = v.priority;
+            best = Allocated::Voice(i);
+        }
+    }
+    best
+}
+
+pub fn allocate_voice(m: Mixer, priority: u8) -> Allocated
+    requires { ⌜ Valid m ⌝ }
+    ensures { λ r. ⌜ r ≡ allocated m priority ⌝ }
+{
+    let voices = m.voices;
+    let n = m.n;
+    let free = first_free(voices, n);
+    let policy = m.stealing_policy;
+    match free {
+        Allocated::Voice(i) => Allocated::Voice(i),
+        Allocated::None => match policy {
+            VoiceStealingPolicy::FreeChannelOnly => Allocated::None,
+            VoiceStealingPolicy::LowestPriorityOldest => first_lowest(voices, n, priority),
+        },
+    }
+}

@@ -1,0 +1,30 @@
+-- Each field at its place. Assumes nothing.
+use borrow.Author.Needs.{needs}
+use Rattle.engine.specs.Requests.{requestAt}
+use Rattle.engine.proofs.requests.request_at.Statement.{statement}
+use Rattle.engine.proofs.requests.request_at.Tie as tie
+
+returns : tie.Need-returns
+unfolding requestAt
+returns c =
+    let last = c .before in
+    let third = last .before in
+    let second = third .before .before in
+    rw (last .wide-at4 .ensures, third .wide-at3 .ensures, second .wide-at2 .ensures, second .before .wide-at .ensures)
+
+pub request-at-spec : {M : Type 1} → statement M
+request-at-spec =
+    tie.close
+    (tie.spec
+    (λ c. search needs)
+    (λ c κs. search needs)
+    (λ c. search needs)
+    (λ c κs. search needs)
+    (λ c. search needs)
+    (λ c. search needs)
+    (λ c. search needs)
+    (λ c κs. search needs)
+    (λ c κs. search needs)
+    (λ c. search needs)
+    (λ c. search needs)
+    returns)

@@ -1,0 +1,51 @@
+// A list of play requests, ten bytes each.
+ghost use mathlib.Core.Path.{_≡_};
+ghost use Prim.Native.Nat.{_+_, _≤_};
+ghost use lib.ListN.{length};
+ghost use Rattle.engine.specs.Engines.{ValidEngine};
+ghost use Rattle.engine.specs.Requests.{wideAt, requestAt, PlaysAll};
+use crate::AudioEngine;
+use envelope::AdsrSpec;
+use start::Request;
+
+fn wide_at(l: &[u8], k: usize) -> u16
+    requires { ⌜ k + 2 ≤ length (now l) ⌝ }
+    ensures { λ r. ⌜ r ≡ wideAt (now (l .entry)) k ⌝ }
+{
+    256 * (l[k] as u16) + (l[k + 1] as u16)
+}
+
+fn request_at(l: &[u8], k: usize) -> Request
+    requires { ⌜ k + 10 ≤ length (now l) ⌝ }
+    ensures { λ r. ⌜ r ≡ requestAt (now (l .entry)) k ⌝ }
+{
+    let adsr = AdsrSpec {
+        attack_ms: wide_at(l, k + 2),
+        decay_ms: wide_at(l, k + 4),
+        sustain_q8: l[k + 6],
+        release_ms: wide_at(l, k + 7),
+    };
+    Request {
+        id: wide_at(l, k),
+        adsr,
+        priority: l[k + 9],
+    }
+}
+
+impl AudioEngine {
+    // Plays every request of the slice, one after another. Fewer than ten bytes at its end are no request.
+    pub fn play_all(self, bytes: &[u8], requests: &[u8]) -> AudioEngine
+        requires { ⌜ ValidEngine self ⌝ }
+        ensures { λ r. ⌜ PlaysAll self (now (bytes .entry)) (now (requests .entry)) r ⌝ }
+    {
+        let count = requests.len() / 10;
+        let mut state = self.state;
+        for i in 0..count {
+            let request = request_at(requests, 10 * i);
+            let p = play::play_request(state, bytes, request);
+            let next = p.mixer;
+            state = next;
+        }
+        AudioEngine { state }
+    }
+}

@@ -1,0 +1,66 @@
+-- Each definition keeps a state valid. Assumes nothing.
+use Prim.Native.Nat.{ℕ, zero, suc, _≤_, _<_}
+use native.Mathlib.Omega.{arith}
+use mathlib.Core.Path.{_≡_, refl}
+use mathlib.Core.Bool.{cond}
+use borrow.Author.Tests.{eq-eqb, ne-eqb}
+use lib.Dec.{eqb}
+use lib.ListN.{length, getD, set, length-set}
+use lib.Seq.{drop-set-lt}
+use Rattle.laws.proofs.Lists.{getD-any, all-set}
+use Rattle.voice.specs.Voices as S
+use Rattle.voice.specs.declared.Voice.{Voice}
+use Rattle.voice.proofs.Laws as L
+use Rattle.mixer.specs.declared.Mixer.{Mixer}
+use Rattle.mixer.specs.Mixers.{Valid, withVoices}
+use Rattle.mixer.proofs.Laws.{valid-voice, valid-stored}
+use Rattle.play.specs.Plays.{firstSounding}
+use Rattle.play.specs.Fades.{firstReleased, begun}
+
+pub valid-first : {m : Mixer} (v : Voice) → Valid m → S.Valid v → Valid (firstSounding m v)
+unfolding firstSounding
+valid-first {m} v h k = by-count (m .n) refl
+  where
+    by-count : (n : ℕ) → m .n ≡ n → Valid (cond (eqb n 0) m (withVoices m (set (m .voices) 0 v)))
+    by-count zero e = h
+    by-count (suc n) e = rw (ne-eqb (suc n) 0 (λ z. omega arith)) (valid-stored 0 v h (omega arith) k)
+
+pub first-there : (m : Mixer) (v : Voice) → 0 < m .n → firstSounding m v ≡ withVoices m (set (m .voices) 0 v)
+unfolding firstSounding
+first-there m v h = rw (ne-eqb (m .n) 0 (λ e. omega arith))
+
+pub first-none : (m : Mixer) (v : Voice) → m .n ≤ 0 → firstSounding m v ≡ m
+unfolding firstSounding
+first-none m v h = rw (eq-eqb (m .n) 0 (omega arith))
+
+-- ---- beginning a fade
+pub valid-released : {m : Mixer} → Valid m → 2 ≤ m .n → Valid (firstReleased m)
+unfolding firstReleased
+valid-released {m} h k =
+    let d = S.silentVoice 0 in
+    valid-stored 0 (S.releasedVoice (getD (m .voices) 0 d)) h (omega arith) (L.valid-released (valid-voice 0 d h (omega arith)))
+
+pub released-there : (m : Mixer) (d : Voice) → Valid m → 2 ≤ m .n → firstReleased m ≡ withVoices m (set (m .voices) 0 (S.releasedVoice (getD (m .voices) 0 d)))
+unfolding firstReleased
+released-there m d h k =
+    let b : 0 < length (m .voices) = omega (arith, h .full) in
+    rw (getD-any (m .voices) 0 (S.silentVoice 0) d b)
+
+pub released-count : (m : Mixer) → firstReleased m .n ≡ m .n
+unfolding firstReleased
+released-count m = refl
+
+pub valid-begun : {m : Mixer} (v : Voice) (step : ℕ) → Valid m → 2 ≤ m .n → 1 ≤ step → S.Valid v → Valid (begun m v step)
+unfolding begun
+valid-begun {m} v step h k l g =
+    record {
+      few = h .few;
+      full = rw (length-set, h .full);
+      each = all-set S.Valid (m .voices) 1 v (h .each) g;
+      rest = rw (drop-set-lt (m .n) (m .voices) 1 v (omega arith), h .rest);
+      bank = h .bank;
+      rate = h .rate;
+      period = h .period;
+      mapper = h .mapper;
+      fade = λ e. (k, l);
+    }

@@ -1,0 +1,54 @@
+-- Beginning a fade. Assumes nothing.
+use Prim.Native.Nat.{ℕ}
+use mathlib.Core.Bool.{true, cond}
+use mathlib.Core.List.{List}
+use lib.Dec.{ltb}
+use lib.ListN.{getD, set}
+use Rattle.bank.specs.Search.{foundGiven}
+use Rattle.bank.specs.declared.EntryRead.{EntryRead}
+use Rattle.bank.specs.declared.EntryRead.the-variants as F
+use Rattle.config.specs.Config.{stepOf}
+use Rattle.envelope.specs.declared.AdsrSpec.{AdsrSpec}
+use Rattle.error.specs.declared.AudioError.the-variants as E
+use Rattle.start.specs.Starts.{entryStart}
+use Rattle.start.specs.declared.EntryStart.{EntryStart}
+use Rattle.start.specs.declared.EntryStart.the-variants as S
+use Rattle.voice.specs.Voices.{silentVoice, releasedVoice}
+use Rattle.voice.specs.declared.Voice.{Voice}
+use Rattle.mixer.specs.Mixers.{withVoices, unchanged}
+use Rattle.mixer.specs.declared.Mixer.{Mixer}
+use Rattle.mixer.specs.declared.Outcome.the-variants as O
+use Rattle.mixer.specs.declared.Changed.{Changed}
+
+-- voice 0 released
+unfoldable pub firstReleased : Mixer → Mixer
+firstReleased m = withVoices m (set (m .voices) 0 (releasedVoice (getD (m .voices) 0 (silentVoice 0))))
+
+-- "A fade starts voice 1 at priority 128 and then sets t to 0."
+unfoldable pub begun : Mixer → Voice → ℕ → Mixer
+begun m v step =
+    record {
+      n = m .n;
+      voices = set (m .voices) 1 v;
+      bank = m .bank;
+      config = m .config;
+      mapper = m .mapper;
+      «crossfade_t_q8» = 0;
+      «crossfade_step_q8» = step;
+      «crossfade_active» = true;
+      «stealing_policy» = m .«stealing_policy»;
+    }
+
+-- the step is from the engine's rate
+unfoldable pub fadedBy : Mixer → ℕ → EntryStart → Changed
+fadedBy m ms (S.Refused e) = unchanged m e
+fadedBy m ms (S.Voice v) = record { outcome = O.Done; mixer = begun m v (stepOf ms (m .config .«sample_rate_hz»)) }
+
+-- "it releases voice 0 before its entry start, and 4 or 10 given there leaves that release standing"
+abbrev pub fadedTo : Mixer → List ℕ → ℕ → AdsrSpec → EntryRead → Changed
+fadedTo m bytes ms adsr (F.Refused e) = unchanged m e
+fadedTo m bytes ms adsr (F.Entry entry) = fadedBy (firstReleased m) ms (entryStart (m .bank) bytes entry adsr 128)
+
+-- "Fade | N below 2 | 5 `VoiceBusy`", then bank, entry search and entry start
+unfoldable pub faded : Mixer → List ℕ → ℕ → ℕ → AdsrSpec → Changed
+faded m bytes id ms adsr = cond (ltb (m .n) 2) (unchanged m E.VoiceBusy) (fadedTo m bytes ms adsr (foundGiven (m .bank) bytes id))

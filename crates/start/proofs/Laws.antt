@@ -1,0 +1,85 @@
+-- What a start gives: a voice that is valid and audible, of the priority asked. Assumes nothing.
+use Prim.Native.Nat.{ℕ, _≤_}
+use mathlib.Core.Path.{_≡_}
+use mathlib.Core.Bool.{true}
+use mathlib.Core.List.{List}
+use Rattle.bank.specs.Banks.{payloadGiven}
+use Rattle.bank.specs.declared.BankSet.{BankSet}
+use Rattle.bank.specs.declared.BankSet.the-variants as B
+use Rattle.bank.specs.declared.SoundBank.{SoundBank}
+use Rattle.bank.specs.declared.EffectEntry.{EffectEntry}
+use Rattle.bank.specs.declared.PayloadRead.{PayloadRead}
+use Rattle.bank.specs.declared.PayloadRead.the-variants as P
+use Rattle.bank.specs.declared.EntryRead.{EntryRead}
+use Rattle.bank.specs.declared.EntryRead.the-variants as F
+use Rattle.bank.specs.Search.{foundGiven}
+use Rattle.error.specs.declared.AudioError.{AudioError}
+use Rattle.envelope.specs.declared.AdsrSpec.{AdsrSpec}
+use Rattle.voice.specs.Sources.{ValidSource, startedEntry}
+use Rattle.voice.specs.Voices.{Valid, silentVoice, audible}
+use Rattle.voice.specs.declared.Voice.{Voice}
+use Rattle.voice.specs.declared.source.Started.{Started}
+use Rattle.voice.specs.declared.source.Started.the-variants as R
+use Rattle.voice.specs.declared.source.VoiceSource.{VoiceSource}
+use Rattle.voice.proofs.Laws as L
+use Rattle.start.specs.declared.EntryStart.the-variants as S
+use Rattle.start.specs.declared.Request.{Request}
+use Rattle.start.specs.declared.EntryStart.{EntryStart}
+use Rattle.start.specs.Starts.{startedVoice, voiceOf, startAt, startIn, entryStart, foundStart, requestStart}
+
+-- the voice before its envelope is triggered
+pub valid-untriggered : (rate gain priority : ℕ) (source : VoiceSource) (v : Voice) → v ≡ silentVoice rate → rate ≤ 65537 → ValidSource source
+    → Valid
+    (record {
+      source = source;
+      adsr = v .adsr;
+      «gain_q8» = gain;
+      priority = priority;
+      «pan_q8» = v .«pan_q8»;
+      «sample_rate_hz» = v .«sample_rate_hz»;
+    })
+valid-untriggered rate gain priority source v e h k =
+    let s : Valid v = rw e (L.valid-silent h) in
+    record { rate = s .rate; source = k; adsr = s .adsr }
+
+-- a start from a bank, by its payload
+module _ (bank : BankSet) (b : SoundBank) (bytes : List ℕ) (entry : EffectEntry) (adsr : AdsrSpec) (priority : ℕ) (h : bank ≡ B.Bank b) where
+  pub start-refused : (e : AudioError) → payloadGiven (B.Bank b) bytes (entry .offset) (entry .len) ≡ P.Refused e → entryStart bank bytes entry adsr priority ≡ S.Refused e
+  unfolding entryStart
+  start-refused e k = rw (h, k)
+
+  pub start-whole : payloadGiven (B.Bank b) bytes (entry .offset) (entry .len) ≡ P.Whole → entryStart bank bytes entry adsr priority ≡ startAt (b .«sample_rate_hz») entry adsr priority
+  unfolding entryStart
+  start-whole k = rw (h, k)
+
+-- ---- what is heard: a voice that is given is audible and of the priority asked
+abbrev pub Heard : ℕ → EntryStart → Type 0
+Heard priority (S.Voice v) = (audible v ≡ true) × (v .priority ≡ priority)
+Heard priority (S.Refused e) = Unit {0}
+
+voice-heard : (rate gain priority : ℕ) (source : VoiceSource) (adsr : AdsrSpec) → Heard priority (S.Voice (startedVoice rate gain priority source adsr))
+unfolding startedVoice
+voice-heard rate gain priority source adsr = (L.triggered-audible _ adsr, L.triggered-priority _ adsr)
+
+at-heard : (s : Started) (rate : ℕ) (entry : EffectEntry) (adsr : AdsrSpec) (priority : ℕ) → Heard priority (voiceOf s rate entry adsr priority)
+at-heard (R.Refused e) rate entry adsr priority = tt
+at-heard (R.Source source) rate entry adsr priority = voice-heard rate (entry .«default_gain_q8») priority source adsr
+
+in-heard : (p : PayloadRead) (rate : ℕ) (entry : EffectEntry) (adsr : AdsrSpec) (priority : ℕ) → Heard priority (startIn p rate entry adsr priority)
+unfolding startAt
+in-heard (P.Refused e) rate entry adsr priority = tt
+in-heard P.Whole rate entry adsr priority = at-heard (startedEntry (entry .kind) (entry .param0) (entry .param1) rate) rate entry adsr priority
+
+pub entry-heard : (bank : BankSet) (bytes : List ℕ) (entry : EffectEntry) (adsr : AdsrSpec) (priority : ℕ) → Heard priority (entryStart bank bytes entry adsr priority)
+unfolding entryStart
+entry-heard B.None bytes entry adsr priority = tt
+entry-heard (B.Bank b) bytes entry adsr priority =
+    in-heard (payloadGiven (B.Bank b) bytes (entry .offset) (entry .len)) (b .«sample_rate_hz») entry adsr priority
+
+pub request-heard : (bank : BankSet) (bytes : List ℕ) (r : Request) → Heard (r .priority) (requestStart bank bytes r)
+unfolding requestStart
+request-heard bank bytes r = by-search (foundGiven bank bytes (r .id))
+  where
+    by-search : (f : EntryRead) → Heard (r .priority) (foundStart f bank bytes (r .adsr) (r .priority))
+    by-search (F.Refused e) = tt
+    by-search (F.Entry entry) = entry-heard bank bytes entry (r .adsr) (r .priority)

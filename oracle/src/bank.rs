@@ -10,6 +10,15 @@ impl<'a> SoundBank<'a> {
             effect_count,
         }
     }
+
+    /// The same bank over other bytes.
+    pub const fn lent<'b>(&self, data: &'b [u8]) -> SoundBank<'b> {
+        SoundBank::over(data, self.sample_rate_hz, self.effect_count)
+    }
+
+    pub const fn length(&self) -> usize {
+        self.data.len()
+    }
 }
 
 impl crate::Peek for SoundBank<'_> {

@@ -2,6 +2,42 @@ include!("../upstream/crates/embedded-audio/src/engine.rs");
 
 use crate::Peek;
 
+impl<'a, const N: usize> AudioEngine<'a, N> {
+    pub fn bank(&self) -> Option<SoundBank<'a>> {
+        self.bank
+    }
+
+    /// The same engine, for a longer time, with a bank that lasts as long.
+    fn kept(self, bank: Option<SoundBank<'static>>) -> AudioEngine<'static, N> {
+        AudioEngine {
+            bank,
+            config: self.config,
+            voices: self.voices.map(Voice::kept),
+            mapper: self.mapper,
+            crossfade_t_q8: self.crossfade_t_q8,
+            crossfade_step_q8: self.crossfade_step_q8,
+            crossfade_active: self.crossfade_active,
+            stealing_policy: self.stealing_policy,
+            #[cfg(feature = "fm")]
+            fm_mapper: self.fm_mapper,
+        }
+    }
+}
+
+impl<const N: usize> AudioEngine<'static, N> {
+    /// One call with the bank over the bytes lent now. The original keeps the bank's bytes, the port is lent them anew for
+    /// each call. Nothing but the bank's bytes is another one during the call, and the bank is the old one after it.
+    pub fn lent<T>(&mut self, bytes: &[u8], call: impl FnOnce(&mut AudioEngine<'_, N>) -> T) -> T {
+        let held = self.bank;
+        let aside = core::mem::replace(self, Self::with_voice_count(self.config));
+        let mut engine: AudioEngine<'_, N> = aside;
+        engine.bank = held.map(|bank| bank.lent(bytes));
+        let answer = call(&mut engine);
+        *self = engine.kept(held);
+        answer
+    }
+}
+
 /// The engine's own line. Its voices are read through `voice`.
 impl<const N: usize> Peek for AudioEngine<'_, N> {
     fn peek(&self, to: &mut alloc::vec::Vec<i64>) {

@@ -15,6 +15,27 @@ impl Peek for Voice<'_> {
     }
 }
 
+impl Voice<'_> {
+    /// The same voice, for a longer time: of the sources that are carried over none holds a part of the bank.
+    pub fn kept(self) -> Voice<'static> {
+        let source = match self.source {
+            VoiceSource::Idle => VoiceSource::Idle,
+            VoiceSource::Tone(tone) => VoiceSource::Tone(tone),
+            VoiceSource::PolyBlep(polyblep) => VoiceSource::PolyBlep(polyblep),
+            VoiceSource::Fm(fm) => VoiceSource::Fm(fm),
+            _ => unreachable!("a source that is not carried over"),
+        };
+        Voice {
+            source,
+            adsr: self.adsr,
+            gain_q8: self.gain_q8,
+            priority: self.priority,
+            pan_q8: self.pan_q8,
+            sample_rate_hz: self.sample_rate_hz,
+        }
+    }
+}
+
 /// The sources are numbered as document 01 lists them, without those that are not carried over.
 pub fn peek_source(source: &VoiceSource, to: &mut alloc::vec::Vec<i64>) {
     let (number, fields): (i64, &dyn Peek) = match source {

@@ -1,16 +1,19 @@
-//! Puts a script's records beside their answers. `align SCRIPT ANSWERS` prints how many records were answered;
-//! `align SCRIPT ANSWERS OTHER` prints the first record whose answers differ, and both of them.
+//! Puts a script's records beside their answers. `align SCRIPT ANSWERS` prints how many records were read, and how many of
+//! them were play requests; `align SCRIPT ANSWERS OTHER` prints the first record whose answers differ, and both of them.
 
 use std::{env, fs, process};
 
 /// Of a long line this many characters are shown.
 const SHOWN: usize = 200;
 
+/// What a bad line prints.
+const BAD: &[u8] = b"FFFF";
+
 fn main() {
     let paths: Vec<String> = env::args().skip(1).collect();
     let files: Vec<Vec<u8>> = paths.iter().map(|path| read(path)).collect();
     match &files[..] {
-        [script, answers] => println!("{}", align(script, answers).count()),
+        [script, answers] => count(script, answers),
         [script, answers, other] => show_difference(script, answers, other),
         _ => fail("usage: align SCRIPT ANSWERS [OTHER]"),
     }
@@ -31,34 +34,124 @@ fn lines(text: &[u8]) -> impl Iterator<Item = &[u8]> {
         .map(|line| line.strip_suffix(b"\n").unwrap_or(line))
 }
 
-/// The records that have an answer, each with its answer's lines. A bad line has one, after which there are none.
-fn align<'a>(
-    script: &'a [u8],
-    answers: &'a [u8],
-) -> impl Iterator<Item = (&'a [u8], Vec<&'a [u8]>)> {
+/// A record and its answer's lines: none where it prints nothing.
+type Aligned<'a> = (&'a [u8], Vec<&'a [u8]>);
+
+/// The records that were read, each with its answer's lines. A bad line is the last of them.
+fn align<'a>(script: &'a [u8], answers: &'a [u8]) -> impl Iterator<Item = Aligned<'a>> {
     let mut answers = lines(answers);
+    let (mut open, mut ended) = (false, false);
     lines(script).map_while(move |record| {
+        if ended {
+            return None;
+        }
+        if SILENT.iter().any(|form| form.fits(record, open)) {
+            return Some((record, vec![]));
+        }
         let first = answers.next()?;
         let mut answer = vec![first];
-        if has_second_line(record, first) {
-            answer.extend(answers.next());
-        }
+        answer.extend(answers.by_ref().take(more_lines(record, first)));
+        open |= record.starts_with(b"10") && first == b"00";
+        ended = first == BAD && !LIKE_BAD.iter().any(|form| form.fits(record, open));
         Some((record, answer))
     })
 }
 
-/// The envelope records, the duty mapper, a source or a voice alone, where they are not refused.
-fn has_second_line(record: &[u8], first: &[u8]) -> bool {
-    let codes: [&[u8]; 5] = [b"48", b"57", b"58", b"60", b"61"];
-    first == b"00" && codes.iter().any(|code| record.starts_with(code))
+/// What the good lines of a record look like.
+struct Form {
+    code: &'static [u8],
+    least_digits: usize,
+    most_digits: usize,
+    greatest_last_byte: u8,
+    needs_engine: bool,
 }
 
+impl Form {
+    const fn of(code: &'static [u8], digits: usize, needs_engine: bool) -> Self {
+        Self {
+            code,
+            least_digits: digits,
+            most_digits: digits,
+            greatest_last_byte: 0xFF,
+            needs_engine,
+        }
+    }
+
+    const fn with_last_up_to(self, greatest_last_byte: u8) -> Self {
+        Self {
+            greatest_last_byte,
+            ..self
+        }
+    }
+
+    fn fits(&self, record: &[u8], open: bool) -> bool {
+        let digits = record.len();
+        record.starts_with(self.code)
+            && (self.least_digits..=self.most_digits).contains(&digits)
+            && digits.is_multiple_of(2)
+            && record
+                .iter()
+                .all(|byte| matches!(byte, b'0'..=b'9' | b'A'..=b'F'))
+            && hex(&record[digits - 2..]) <= self.greatest_last_byte as u64
+            && (open || !self.needs_engine)
+    }
+}
+
+/// The records that print nothing.
+const SILENT: [Form; 6] = [
+    Form {
+        most_digits: 8_194,
+        ..Form::of(b"12", 2, false)
+    },
+    Form::of(b"15", 16, true).with_last_up_to(2),
+    Form::of(b"16", 16, true).with_last_up_to(3),
+    Form::of(b"17", 6, true),
+    Form::of(b"18", 4, true),
+    Form::of(b"19", 2, true),
+];
+
+/// The records whose answer may look like that to a bad line.
+const LIKE_BAD: [Form; 3] = [
+    Form::of(b"2B", 2, true),
+    Form::of(b"43", 4, false),
+    Form::of(b"52", 10, false),
+];
+
+/// The lines after the first: each voice of a dump; and one for the envelope records, the duty mapper, a source or a voice
+/// alone, where they are not refused.
+fn more_lines(record: &[u8], first: &[u8]) -> usize {
+    let codes: [&[u8]; 5] = [b"48", b"57", b"58", b"60", b"61"];
+    if record.starts_with(b"30") && first.len() > 16 {
+        hex(&first[..16]) as usize
+    } else if first == b"00" && codes.iter().any(|code| record.starts_with(code)) {
+        1
+    } else {
+        0
+    }
+}
+
+/// The value of digits, 0 where they are none.
+fn hex(digits: &[u8]) -> u64 {
+    let digits = str::from_utf8(digits).unwrap_or_default();
+    u64::from_str_radix(digits, 16).unwrap_or_default()
+}
+
+fn count(script: &[u8], answers: &[u8]) {
+    let (mut records, mut plays) = (0, 0);
+    for (record, answer) in align(script, answers) {
+        records += 1;
+        plays += (record.starts_with(b"13") && answer[0] != BAD) as u32;
+    }
+    println!("{records} {plays}");
+}
+
+/// The other answers are cut as the first ones are, so that they are laid beside the same records also where they are wrong.
 fn show_difference(script: &[u8], answers: &[u8], other: &[u8]) {
-    let mut expected = align(script, answers);
-    let mut given = align(script, other);
-    for (place, record) in lines(script).enumerate() {
-        let (expected, given) = (text(expected.next()), text(given.next()));
+    let mut other = lines(other);
+    for (place, (record, expected)) in align(script, answers).enumerate() {
+        let given: Vec<&[u8]> = other.by_ref().take(expected.len()).collect();
         if expected != given {
+            let (expected, given) = (text(&expected), text(&given));
             let same = expected.iter().zip(&given).take_while(|(a, b)| a == b);
             let at = same.count();
             println!("record {}: {}", place + 1, shown(record, 0));
@@ -71,10 +164,10 @@ fn show_difference(script: &[u8], answers: &[u8], other: &[u8]) {
     println!("the answers differ after the last record, or in the last newline");
 }
 
-fn text(answer: Option<(&[u8], Vec<&[u8]>)>) -> Vec<u8> {
+fn text(answer: &[&[u8]]) -> Vec<u8> {
     match answer {
-        Some((_, lines)) => lines.join(&b" / "[..]),
-        None => b"(nothing)".to_vec(),
+        [] => b"(nothing)".to_vec(),
+        lines => lines.join(&b" / "[..]),
     }
 }
 

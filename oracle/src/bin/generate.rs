@@ -2,10 +2,20 @@
 
 #[path = "generate/bad.rs"]
 mod bad;
+#[path = "generate/bank.rs"]
+mod bank;
+#[path = "generate/banks.rs"]
+mod banks;
 #[path = "generate/draw.rs"]
 mod draw;
 #[path = "generate/edges.rs"]
 mod edges;
+#[path = "generate/engine.rs"]
+mod engine;
+#[path = "generate/enginebad.rs"]
+mod enginebad;
+#[path = "generate/plays.rs"]
+mod plays;
 #[path = "generate/random.rs"]
 mod random;
 #[path = "generate/recorded.rs"]
@@ -24,7 +34,10 @@ const USAGE: &str = "usage: generate random SEED COUNT  COUNT good records
        generate bad SEED COUNT     up to COUNT good records, a bad line, more lines
        generate all NAME [COUNT]   a whole set; COUNT is for db, the floats spread over all bit patterns
        generate names              the names of the sets
-       generate recorded           the recorded list";
+       generate engine NAME SEED COUNT  a run of an engine: COUNT banks for banks, else about or up to COUNT records
+       generate engine-names       the names of the runs without frames
+       generate frame-names        the names of the runs with frames
+       generate recorded [engine|frames]  the recorded list, with an engine's records and its frames if asked";
 
 fn main() {
     let arguments: Vec<String> = std::env::args().skip(1).collect();
@@ -44,14 +57,25 @@ fn print(arguments: &[&str]) -> Option<()> {
         ["bad", seed, count] => bad::print(&mut script, seed.parse().ok()?, count.parse().ok()?),
         ["all", name] => sets::print(&mut script, name, sets::FLOATS)?,
         ["all", name, count] => sets::print(&mut script, name, count.parse().ok()?)?,
-        ["names"] => sets::SETS
-            .iter()
-            .for_each(|set| script.add(set.0.as_bytes())),
-        ["recorded"] => recorded::print(&mut script),
+        ["engine", name, seed, count] => {
+            engine::print(&mut script, name, seed.parse().ok()?, count.parse().ok()?)?
+        }
+        ["names"] => names(&mut script, &sets::SETS),
+        ["engine-names"] => names(&mut script, &engine::NAMES),
+        ["frame-names"] => names(&mut script, &engine::FRAME_NAMES),
+        ["recorded"] => recorded::print(&mut script, None),
+        ["recorded", "engine"] => recorded::print(&mut script, Some(false)),
+        ["recorded", "frames"] => recorded::print(&mut script, Some(true)),
         _ => return None,
     }
     script.finish();
     Some(())
+}
+
+fn names<T>(script: &mut Script, named: &[(&str, T)]) {
+    for (name, _) in named {
+        script.add(name.as_bytes());
+    }
 }
 
 fn random_script(script: &mut Script, seed: u64, count: u64) {

@@ -1,6 +1,7 @@
 //! A script with one bad line, after which nothing is answered.
 
 use crate::draw::Draw;
+use crate::enginebad::{ENGINE, FRAMES};
 use crate::random::{self, RECORDS};
 use crate::script::{Line, Script, mapper};
 
@@ -36,7 +37,9 @@ fn unknown_code(draw: &mut Draw) -> Line {
     let mut line = random::any(draw);
     let code = loop {
         let code = draw.u8();
-        if RECORDS.iter().all(|record| record.0 != code) {
+        let known = RECORDS.iter().any(|record| record.0 == code);
+        // An engine's records are left out: they would be good here at times.
+        if !known && !ENGINE.contains(&code) && !FRAMES.contains(&code) {
             break code;
         }
     };

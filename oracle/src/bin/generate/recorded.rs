@@ -3,12 +3,14 @@
 
 use crate::draw::Draw;
 use crate::edges::{BYTES, HALVES, INTEGRATORS, RATES, SAMPLES, WORDS};
+use crate::engine;
 use crate::random;
 use crate::script::{Script, i8, mapper, u8, u16, u32};
 use crate::sets;
 use crate::sources;
 
-pub fn print(script: &mut Script) {
+/// With an engine's records, with or without frames, where they are asked for.
+pub fn print(script: &mut Script, frames: Option<bool>) {
     for code in [0x45, 0x43, 0x56, 0x59, 0x55, 0x51] {
         sets::bytes(script, code);
     }
@@ -26,6 +28,9 @@ pub fn print(script: &mut Script) {
     let mut draw = Draw::modest(1);
     for _ in 0..5_000 {
         script.add(&random::any(&mut draw));
+    }
+    if let Some(frames) = frames {
+        engine::recorded(script, frames);
     }
     // A lower-case digit: the list can hold one bad line, as nothing after it is read.
     script.add(b"407FfF");

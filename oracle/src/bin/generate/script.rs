@@ -81,27 +81,33 @@ pub fn mapper(mode: u8, period: u16, integrator: i32, samples: &[i8]) -> Line {
     record(0x57, &fields)
 }
 
+pub fn lend(bytes: &[u8]) -> Line {
+    let fields: Vec<Field> = bytes.iter().map(|byte| u8(*byte)).collect();
+    record(0x12, &fields)
+}
+
 /// A script on its way out. A newline goes before every line but the first, so that the last can be left without one.
 pub struct Script {
     out: BufWriter<Stdout>,
-    begun: bool,
     pub ends_with_newline: bool,
+    /// How many lines it has so far.
+    pub lines: u64,
 }
 
 impl Script {
     pub fn new() -> Self {
         Self {
             out: BufWriter::with_capacity(1 << 16, stdout()),
-            begun: false,
             ends_with_newline: true,
+            lines: 0,
         }
     }
 
     pub fn add(&mut self, line: &[u8]) {
-        if self.begun {
+        if self.lines > 0 {
             self.write(b"\n");
         }
-        self.begun = true;
+        self.lines += 1;
         self.write(line);
     }
 
@@ -110,7 +116,7 @@ impl Script {
     }
 
     pub fn finish(mut self) {
-        if self.begun && self.ends_with_newline {
+        if self.lines > 0 && self.ends_with_newline {
             self.write(b"\n");
         }
         self.out.flush().unwrap_or_else(|_| std::process::exit(1));

@@ -1,0 +1,44 @@
+//! Scripts of an engine, by name: those without frames and those with them.
+
+use crate::enginebad::{self, ENGINE, FRAMES};
+use crate::script::Script;
+use crate::{banks, plays};
+
+type Print = fn(&mut Script, u64, u64);
+
+pub const NAMES: [(&str, Print); 3] = [
+    ("banks", banks::print),
+    ("plays", |script, seed, count| {
+        plays::print(script, seed, count, false)
+    }),
+    ("enginebad", |script, seed, count| {
+        enginebad::print(script, seed, count as u32, &ENGINE, &ENGINE)
+    }),
+];
+
+pub const FRAME_NAMES: [(&str, Print); 2] = [
+    ("frames", |script, seed, count| {
+        plays::print(script, seed, count, true)
+    }),
+    ("framebad", |script, seed, count| {
+        let all = [&ENGINE[..], &FRAMES].concat();
+        enginebad::print(script, seed, count as u32, &FRAMES, &all)
+    }),
+];
+
+/// Nothing where there is no such name.
+pub fn print(script: &mut Script, name: &str, seed: u64, count: u64) -> Option<()> {
+    let mut named = NAMES.iter().chain(&FRAME_NAMES);
+    let print = named.find(|named| named.0 == name)?.1;
+    print(script, seed, count);
+    Some(())
+}
+
+/// For the recorded list: small banks and a few hundred records, with frames or without.
+pub fn recorded(script: &mut Script, frames: bool) {
+    banks::print(script, 0, 14);
+    for seed in [2, 5] {
+        plays::print(script, seed, 250, frames);
+    }
+    script.ends_with_newline = true;
+}

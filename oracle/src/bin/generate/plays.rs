@@ -1,0 +1,358 @@
+//! Scripts that run an engine: play requests among all the other calls, with frames or without.
+
+use crate::bank::{self, Bank};
+use crate::banks;
+use crate::draw::Draw;
+use crate::script::{Field, Script, lend, u8, u16, u32};
+
+const MOST_VOICES: u8 = 16;
+const RATES: [u32; 14] = [
+    8_000, 8_000, 8_000, 8_000, 16_000, 16_000, 1_000, 1_000, 44_100, 65_537, 999, 20, 1, 0,
+];
+const REFUSED_RATES: [u32; 3] = [65_538, 70_000, u32::MAX];
+
+/// How the priorities of requests are drawn while an engine is open.
+#[derive(Clone, Copy)]
+enum Priorities {
+    Few,
+    Any,
+    Spread,
+    Rising,
+}
+
+struct Plays<'a> {
+    script: &'a mut Script,
+    draw: Draw,
+    frames: bool,
+    voices: u8,
+    priorities: Priorities,
+    requests: u8,
+    bank: Bank,
+}
+
+/// About `count` records, after document 01's examples.
+pub fn print(script: &mut Script, seed: u64, count: u64, frames: bool) {
+    examples(script);
+    let end = script.lines + count;
+    let mut draw = Draw::new(seed);
+    let bank = Bank::draw(&mut draw, 4, 0);
+    let mut plays = Plays {
+        script,
+        draw,
+        frames,
+        voices: ((seed * 5) % (MOST_VOICES as u64 + 1)) as u8,
+        priorities: Priorities::Few,
+        requests: 0,
+        bank,
+    };
+    plays.open();
+    while plays.script.lines < end {
+        plays.step();
+    }
+    plays.script.record(0x30, &[]);
+    plays.script.ends_with_newline = seed.is_multiple_of(2);
+}
+
+/// Rates 65,537 and 65,538, 16 voices and 17; then two silent voices with requests 3, 5, 5, 7.
+fn examples(script: &mut Script) {
+    for (voices, rate) in [
+        (2, 65_537),
+        (2, 65_538),
+        (16, 8_000),
+        (17, 8_000),
+        (2, 8_000),
+    ] {
+        let fields = [u8(voices), u32(rate), u16(1_000), u8(0), u8(255), u8(0)];
+        script.record(0x10, &fields);
+    }
+    // One entry: id 7, FM, gain 200, 440 Hz, ratio 150, no payload.
+    let mut bytes = vec![0; bank::HEADER];
+    bytes.extend([7, 0, 2, 0, 200, 0, 0xB8, 1, 150, 0, 0, 0, 0, 0, 0, 0]);
+    script.add(&lend(&bytes));
+    script.record(0x11, &[u32(8_000), u16(1)]);
+    for priority in [3, 5, 5, 7] {
+        let envelope = [u16(5), u16(80), u8(200), u16(120)];
+        let fields = [&[u16(7)], &envelope[..], &[u8(priority)]].concat();
+        script.record(0x13, &fields);
+        script.record(0x30, &[]);
+    }
+}
+
+type Step<'a> = fn(&mut Plays<'a>);
+
+impl<'a> Plays<'a> {
+    /// What a step may be, and how often it is beside the others.
+    const STEPS: [(u32, Step<'a>); 16] = [
+        (50, Self::play),
+        (2, Self::burst),
+        (5, Self::allocate),
+        (5, Self::audible),
+        (8, Self::fade),
+        (3, Self::tone),
+        (3, Self::polyblep),
+        (4, Self::pan),
+        (2, Self::master_gain),
+        (2, Self::stop_all),
+        (2, Self::set_bank),
+        (3, Self::lend_other),
+        (2, Self::open_next),
+        (2, Self::search),
+        (2, Self::payload),
+        (2, Self::open_refused),
+    ];
+
+    fn step(&mut self) {
+        if self.frames && self.draw.one_in(2) {
+            self.frame();
+        } else {
+            let all: u32 = Self::STEPS.iter().map(|step| step.0).sum();
+            let mut place = self.draw.below(all);
+            let chosen = Self::STEPS.iter().find(|step| {
+                let found = place < step.0;
+                place = place.saturating_sub(step.0);
+                found
+            });
+            chosen.expect("a step of the list").1(self);
+        }
+        let dumps = if self.frames { 2 } else { 4 };
+        if !self.draw.one_in(dumps) {
+            self.script.record(0x30, &[]);
+        }
+    }
+
+    /// Each engine has another number of voices: 17 of them go through all.
+    fn open_next(&mut self) {
+        self.voices = (self.voices + 1) % (MOST_VOICES + 1);
+        self.open();
+    }
+
+    fn open(&mut self) {
+        let draw = &mut self.draw;
+        use Priorities::{Any, Few, Rising, Spread};
+        self.priorities = draw.pick(&[Few, Few, Any, Spread, Rising]);
+        self.requests = 0;
+        let rates = [draw.pick(&RATES), draw.pick(&RATES), draw.below(65_538)];
+        let (period, gain) = (draw.u16().max(2), draw.u8());
+        let fields = [
+            u8(self.voices),
+            u32(draw.pick(&rates)),
+            u16(draw.pick(&[2, 3, 1_000, 1_000, 65_535, period])),
+            u8(draw.below(3) as u8),
+            u8(draw.pick(&[255, 255, 255, 128, gain])),
+            u8(draw.one_in(3) as u8),
+        ];
+        self.script.record(0x10, &fields);
+        if !self.draw.one_in(8) {
+            self.new_bank();
+        }
+        if self.draw.one_in(2) {
+            self.burst();
+        }
+    }
+
+    /// Refused for one reason or for more; the old engine stays.
+    fn open_refused(&mut self) {
+        let draw = &mut self.draw;
+        let reasons = 1 + draw.below(7);
+        let voices = match reasons & 1 {
+            0 => draw.below(17) as u8,
+            _ => draw.pick(&[17, 18, 255]),
+        };
+        let rate = match reasons & 2 {
+            0 => draw.pick(&RATES),
+            _ => draw.pick(&REFUSED_RATES),
+        };
+        let period = match reasons & 4 {
+            0 => draw.pick(&[2, 1_000, 65_535]),
+            _ => draw.below(2) as u16,
+        };
+        let fields = [
+            u8(voices),
+            u32(rate),
+            u16(period),
+            u8(draw.below(3) as u8),
+            u8(draw.u8()),
+            u8(draw.below(2) as u8),
+        ];
+        self.script.record(0x10, &fields);
+    }
+
+    /// Lends a bank and sets it.
+    fn new_bank(&mut self) {
+        let large = self.draw.below(40) as usize;
+        let count = self.draw.pick(&[1, 2, 4, 6, 9, large]);
+        let tail = bank::tail(&mut self.draw, count);
+        self.bank = Bank::draw(&mut self.draw, count, tail);
+        self.script.add(&lend(&self.bank.bytes));
+        self.set_bank();
+    }
+
+    /// Over the bytes lent now, which need not be those of the bank set.
+    fn set_bank(&mut self) {
+        let (count, draw) = (self.bank.count(), &mut self.draw);
+        if draw.one_in(4) {
+            let rate = draw.pick(&REFUSED_RATES);
+            let fields = match draw.below(3) {
+                0 => [u32(rate), u16(count)],
+                1 => [u32(rate), u16(65_535)],
+                _ => [u32(8_000), u16(count + 40)],
+            };
+            self.script.record(0x11, &fields);
+        }
+        self.script
+            .record(0x11, &[u32(self.draw.pick(&RATES)), u16(count)]);
+    }
+
+    fn lend_other(&mut self) {
+        match self.draw.below(4) {
+            0 => self.new_bank(),
+            1 => self.lend_another_length(),
+            _ => {
+                let count = self.bank.ids.len();
+                let tail = self.bank.bytes.len() - bank::HEADER - bank::ENTRY * count;
+                self.bank = Bank::draw(&mut self.draw, count, tail);
+                self.script.add(&lend(&self.bank.bytes));
+            }
+        }
+    }
+
+    /// For a few calls, after which the old bytes are lent again.
+    fn lend_another_length(&mut self) {
+        let length = self.bank.bytes.len();
+        let other = self.draw.pick(&[length - 1, length + 1, 0, 10]);
+        let mut bytes = self.bank.bytes.clone();
+        bytes.resize(other, 0);
+        self.script.add(&lend(&bytes));
+        for _ in 0..2 {
+            self.play();
+            self.fade();
+            self.search();
+            self.payload();
+            self.script.record(0x30, &[]);
+        }
+        self.script.add(&lend(&self.bank.bytes));
+    }
+
+    fn priority(&mut self) -> u8 {
+        self.requests = self.requests.wrapping_add(1);
+        match self.priorities {
+            Priorities::Few => self.draw.below(4) as u8,
+            Priorities::Any => self.draw.u8(),
+            Priorities::Spread => 85 * self.draw.below(4) as u8,
+            Priorities::Rising => self.requests,
+        }
+    }
+
+    fn ms(&mut self) -> u16 {
+        let (short, any) = (self.draw.below(20) as u16, self.draw.u16());
+        self.draw.pick(&[0, 0, 1, 2, short, short, short, any])
+    }
+
+    fn envelope(&mut self) -> [Field; 4] {
+        let (attack, decay, release) = (self.ms(), self.ms(), self.ms());
+        [u16(attack), u16(decay), u8(self.draw.u8()), u16(release)]
+    }
+
+    /// Mostly one that is there.
+    fn id(&mut self) -> u16 {
+        if self.bank.ids.is_empty() || self.draw.one_in(4) {
+            self.bank.any_id(&mut self.draw)
+        } else {
+            self.draw.pick(&self.bank.ids)
+        }
+    }
+
+    /// Requests one after the other, enough to fill an engine and to take voices in it.
+    fn burst(&mut self) {
+        let dumped = self.draw.one_in(2);
+        for _ in 0..2 * self.voices + 2 {
+            self.play();
+            if dumped {
+                self.script.record(0x30, &[]);
+            }
+        }
+    }
+
+    fn play(&mut self) {
+        let mut fields = vec![u16(self.id())];
+        fields.extend(self.envelope());
+        fields.push(u8(self.priority()));
+        self.script.record(0x13, &fields);
+    }
+
+    /// Many of the fades are long: with 255 samples or more each frame is one step.
+    fn fade(&mut self) {
+        let (short, any) = (self.draw.below(60) as u16, self.draw.u16());
+        let ms = self.draw.pick(&[0, 1, short, short, 300, any]);
+        let mut fields = vec![u16(self.id()), u16(ms)];
+        fields.extend(self.envelope());
+        self.script.record(0x14, &fields);
+    }
+
+    fn tone(&mut self) {
+        self.start(0x15, 3);
+    }
+
+    fn polyblep(&mut self) {
+        self.start(0x16, 4);
+    }
+
+    fn start(&mut self, code: u8, waveforms: u32) {
+        let (any, ms) = (self.draw.u32(), self.ms());
+        let hz = self.draw.pick(&[440, 1_000, 123, any]);
+        let waveform = self.draw.below(waveforms) as u8;
+        self.script.record(code, &[u32(hz), u16(ms), u8(waveform)]);
+    }
+
+    /// Also of voices that are not there.
+    fn pan(&mut self) {
+        let (any, near) = (
+            self.draw.u8(),
+            self.draw.below(self.voices as u32 + 2) as u8,
+        );
+        let voice = self.draw.pick(&[near, near, near, any]);
+        self.script.record(0x17, &[u8(voice), u8(self.draw.u8())]);
+    }
+
+    fn master_gain(&mut self) {
+        let any = self.draw.u8();
+        let gain = self.draw.pick(&[255, 255, any]);
+        self.script.record(0x18, &[u8(gain)]);
+    }
+
+    fn stop_all(&mut self) {
+        self.script.record(0x19, &[]);
+    }
+
+    fn search(&mut self) {
+        banks::search(self.script, &mut self.draw, &self.bank);
+    }
+
+    fn payload(&mut self) {
+        banks::payload(self.script, &mut self.draw, &self.bank);
+    }
+
+    fn allocate(&mut self) {
+        let priority = self.priority();
+        self.script.record(0x1C, &[u8(priority)]);
+    }
+
+    fn audible(&mut self) {
+        self.script.record(0x1D, &[]);
+    }
+
+    fn frame(&mut self) {
+        let code = 0x20 + self.draw.below(13) as u8;
+        if code > 0x2A {
+            return self.script.record(code, &[]);
+        }
+        let draw = &mut self.draw;
+        let cells = match draw.below(60) {
+            0 => 2_048 - draw.below(1_500),
+            1 => draw.pick(&[0, 1, 2_047, 2_048]),
+            2..=10 => draw.below(600),
+            _ => draw.below(24),
+        };
+        self.script.record(code, &[u16(cells as u16)]);
+    }
+}

@@ -1,0 +1,198 @@
+//! Records of an engine: all that needs one open, frames apart.
+
+use crate::answers::{Answers, state_of};
+use crate::fields::{Answered, Bad, Fields};
+use crate::frames;
+use crate::rules::{self, Engine, Ruled, VOICE_BUSY};
+use oracle::bank::SoundBank;
+use oracle::config::AudioConfig;
+use oracle::engine::AudioEngine;
+
+/// The most bytes that are lent.
+pub const MOST_LENT: usize = 4_096;
+
+/// What the engine's bank lies over between two calls. It has only its length from there: each call that reads the bank
+/// reads the bytes lent to it.
+static HELD: [u8; MOST_LENT] = [0; MOST_LENT];
+
+/// A record without its code, the bytes lent to it, and where its answer goes.
+pub struct Call<'a> {
+    pub fields: Fields<'a>,
+    pub lent: &'a [u8],
+    pub answers: &'a mut Answers,
+}
+
+/// An engine of any number of voices.
+pub trait Mixer {
+    fn answer(&mut self, code: u8, call: &mut Call) -> Answered;
+}
+
+type Answer<const N: usize> = fn(&mut Engine<N>, &mut Call) -> Answered;
+
+struct Records<const N: usize>;
+
+impl<const N: usize> Records<N> {
+    /// Code, number of bytes after it, and what answers it.
+    const ALL: [(u8, usize, Answer<N>); 26] = [
+        (0x11, 6, set_bank),
+        (0x13, 10, play),
+        (0x14, 11, fade),
+        (0x15, 7, tone),
+        (0x16, 7, polyblep),
+        (0x17, 2, pan),
+        (0x18, 1, master_gain),
+        (0x19, 0, stop_all),
+        (0x1A, 2, entry_search),
+        (0x1B, 6, payload_lookup),
+        (0x1C, 1, allocate),
+        (0x1D, 0, audible),
+        (0x20, 2, frames::duty),
+        (0x21, 2, frames::pcm_i8),
+        (0x22, 2, frames::pcm_i16),
+        (0x23, 2, frames::pcm_i32),
+        (0x24, 2, frames::dac_u8),
+        (0x25, 2, frames::dac_u12),
+        (0x26, 2, frames::dac_u16),
+        (0x27, 2, frames::stereo_i16),
+        (0x28, 2, frames::stereo_i32),
+        (0x29, 2, frames::panned_i16),
+        (0x2A, 2, frames::panned_i8),
+        (0x2B, 0, frames::one_stereo),
+        (0x2C, 0, frames::one_duty),
+        (0x30, 0, dump),
+    ];
+}
+
+impl<const N: usize> Mixer for Engine<N> {
+    fn answer(&mut self, code: u8, call: &mut Call) -> Answered {
+        let record = Records::<N>::ALL.iter().find(|record| record.0 == code);
+        let (_, length, answer) = record.ok_or(Bad)?;
+        if call.fields.0.len() != *length {
+            return Err(Bad);
+        }
+        answer(self, call)
+    }
+}
+
+/// The engine that an open record asks for, or the refusal.
+pub fn open(fields: &mut Fields) -> Result<Ruled<Box<dyn Mixer>>, Bad> {
+    let (voices, rate, period) = (fields.u8(), fields.u32(), fields.u16());
+    let config = AudioConfig::new(rate, period, fields.duty_mode()?).master_gain_q8(fields.u8());
+    let policy = fields.policy()?;
+    if let Err(number) = rules::opening(voices, rate, period) {
+        return Ok(Err(number));
+    }
+    macro_rules! of {
+        ($($count:literal)*) => {
+            match voices {
+                $($count => {
+                    let mut engine: Engine<$count> = AudioEngine::with_voice_count(config);
+                    engine.set_stealing_policy(policy);
+                    Box::new(engine)
+                })*
+                _ => unreachable!("more voices than are opened"),
+            }
+        };
+    }
+    Ok(Ok(of!(0 1 2 3 4 5 6 7 8 9 10 11 12 13 14 15 16)))
+}
+
+fn set_bank<const N: usize>(engine: &mut Engine<N>, call: &mut Call) -> Answered {
+    let (rate, count) = (call.fields.u32(), call.fields.u16());
+    let ruled = rules::setting(rate, count, call.lent.len());
+    if ruled.is_ok() {
+        engine.set_bank(SoundBank::over(&HELD[..call.lent.len()], rate, count));
+    }
+    call.answers.number(ruled)
+}
+
+fn play<const N: usize>(engine: &mut Engine<N>, call: &mut Call) -> Answered {
+    let fields = &mut call.fields;
+    let (id, envelope, priority) = (fields.u16(), fields.envelope(), fields.u8());
+    let voice = rules::play(engine, call.lent, id, envelope, priority);
+    call.answers.voice(voice)
+}
+
+fn fade<const N: usize>(engine: &mut Engine<N>, call: &mut Call) -> Answered {
+    let fields = &mut call.fields;
+    let (id, ms, envelope) = (fields.u16(), fields.u16(), fields.envelope());
+    let ruled = rules::fade(engine, call.lent, id, ms, envelope);
+    call.answers.number(ruled)
+}
+
+fn tone<const N: usize>(engine: &mut Engine<N>, call: &mut Call) -> Answered {
+    let fields = &mut call.fields;
+    let (hz, ms, waveform) = (fields.u32(), fields.u16(), fields.waveform()?);
+    engine.play_tone(hz, ms, waveform);
+    Ok(())
+}
+
+fn polyblep<const N: usize>(engine: &mut Engine<N>, call: &mut Call) -> Answered {
+    let fields = &mut call.fields;
+    let (hz, ms, waveform) = (fields.u32(), fields.u16(), fields.polyblep_waveform()?);
+    engine.play_polyblep(hz, ms, waveform);
+    Ok(())
+}
+
+fn pan<const N: usize>(engine: &mut Engine<N>, call: &mut Call) -> Answered {
+    let (voice, pan) = (call.fields.u8(), call.fields.u8());
+    engine.set_voice_pan(voice as usize, pan);
+    Ok(())
+}
+
+fn master_gain<const N: usize>(engine: &mut Engine<N>, call: &mut Call) -> Answered {
+    engine.set_master_gain_q8(call.fields.u8());
+    Ok(())
+}
+
+fn stop_all<const N: usize>(engine: &mut Engine<N>, _: &mut Call) -> Answered {
+    engine.stop_all();
+    Ok(())
+}
+
+fn entry_search<const N: usize>(engine: &mut Engine<N>, call: &mut Call) -> Answered {
+    let entry = match rules::search(engine, call.lent, call.fields.u16()) {
+        Ok(entry) => entry,
+        Err(number) => return call.answers.line(number, 2),
+    };
+    call.answers.hex(0, 2);
+    for byte in [entry.kind as u8, entry.flags, entry.default_gain_q8] {
+        call.answers.hex(byte as i64, 2);
+    }
+    for parameter in [entry.param0, entry.param1] {
+        call.answers.hex(parameter as i64, 4);
+    }
+    call.answers.hex(entry.offset as i64, 8);
+    call.answers.line(entry.len as i64, 8)
+}
+
+fn payload_lookup<const N: usize>(engine: &mut Engine<N>, call: &mut Call) -> Answered {
+    let (offset, length) = (call.fields.u32(), call.fields.u16());
+    let part = rules::payload(engine, call.lent, offset, length);
+    call.answers.hex(part.err().unwrap_or(0), 2);
+    for byte in part.unwrap_or(&[]) {
+        call.answers.hex(*byte as i64, 2);
+    }
+    call.answers.end_line();
+    Ok(())
+}
+
+fn allocate<const N: usize>(engine: &mut Engine<N>, call: &mut Call) -> Answered {
+    let voice = engine.allocate_voice(call.fields.u8());
+    call.answers.voice(voice.ok_or(VOICE_BUSY))
+}
+
+fn audible<const N: usize>(engine: &mut Engine<N>, call: &mut Call) -> Answered {
+    call.answers.hex(engine.is_playing() as i64, 2);
+    call.answers.line(engine.active_voice_count() as i64, 2)
+}
+
+fn dump<const N: usize>(engine: &mut Engine<N>, call: &mut Call) -> Answered {
+    call.answers.fields(&state_of(engine));
+    call.answers.end_line();
+    for voice in (0..N).filter_map(|place| engine.voice(place)) {
+        call.answers.fields(&state_of(voice));
+        call.answers.end_line();
+    }
+    Ok(())
+}

@@ -1,0 +1,73 @@
+//! Records 20 to 2C: frames and buffers of them.
+
+use crate::engine::Call;
+use crate::fields::{Answered, Bad};
+use crate::rules::Engine;
+
+const MOST_CELLS: u16 = 2_048;
+
+/// A buffer's cell.
+trait Cell: Copy + Into<i64> {
+    /// What it holds before the call: every byte is A5.
+    const UNWRITTEN: Self;
+    const DIGITS: u32;
+}
+
+macro_rules! cells {
+    ($($kind:ty)*) => {$(
+        impl Cell for $kind {
+            const UNWRITTEN: Self = Self::from_ne_bytes([0xA5; size_of::<Self>()]);
+            const DIGITS: u32 = Self::BITS / 4;
+        }
+    )*};
+}
+
+cells!(i8 i16 i32 u8 u16);
+
+/// A buffer of the length asked for, handed to `fill` and printed whole after the filled length.
+fn filled<T: Cell>(call: &mut Call, fill: impl FnOnce(&mut [T]) -> usize) -> Answered {
+    let cells = call.fields.u16();
+    if cells > MOST_CELLS {
+        return Err(Bad);
+    }
+    let mut buffer = vec![T::UNWRITTEN; cells as usize];
+    let length = fill(&mut buffer);
+    call.answers.hex(length as i64, 4);
+    for cell in buffer {
+        call.answers.hex(cell.into(), T::DIGITS);
+    }
+    call.answers.end_line();
+    Ok(())
+}
+
+macro_rules! fills {
+    ($($name:ident: $fill:ident;)*) => {$(
+        pub fn $name<const N: usize>(engine: &mut Engine<N>, call: &mut Call) -> Answered {
+            filled(call, |buffer| engine.$fill(buffer))
+        }
+    )*};
+}
+
+fills! {
+    duty: fill_duty_buffer;
+    pcm_i8: fill_pcm_i8_buffer;
+    pcm_i16: fill_pcm_i16_buffer;
+    pcm_i32: fill_pcm_i32_buffer;
+    dac_u8: fill_dac_u8_buffer;
+    dac_u12: fill_dac_u12_buffer;
+    dac_u16: fill_dac_u16_buffer;
+    stereo_i16: fill_stereo_i16_buffer;
+    stereo_i32: fill_stereo_i32_buffer;
+    panned_i16: fill_stereo_panned_i16_buffer;
+    panned_i8: fill_stereo_panned_i8_buffer;
+}
+
+pub fn one_stereo<const N: usize>(engine: &mut Engine<N>, call: &mut Call) -> Answered {
+    let (left, right) = engine.tick_stereo_pcm();
+    call.answers.hex(left as i64, 2);
+    call.answers.line(right as i64, 2)
+}
+
+pub fn one_duty<const N: usize>(engine: &mut Engine<N>, call: &mut Call) -> Answered {
+    call.answers.line(engine.tick() as i64, 4)
+}

@@ -1,0 +1,116 @@
+//! The program that lays answers beside a script's records.
+
+use std::path::PathBuf;
+use std::process::Command;
+
+/// What `align` prints for a script, answers to it, and other answers if there are any. The name is for the files.
+fn align(name: &str, texts: &[&str]) -> String {
+    let paths = texts.iter().enumerate().map(|(place, text)| {
+        let path = PathBuf::from(env!("CARGO_TARGET_TMPDIR")).join(format!("align-{name}-{place}"));
+        std::fs::write(&path, text).unwrap();
+        path
+    });
+    let output = Command::new(env!("CARGO_BIN_EXE_align"))
+        .args(paths)
+        .output()
+        .unwrap();
+    assert!(output.status.success());
+    String::from_utf8(output.stdout).unwrap()
+}
+
+fn count(name: &str, script: &[&str], answers: &[&str]) -> String {
+    let text = |lines: &[&str]| {
+        lines
+            .iter()
+            .map(|line| format!("{line}\n"))
+            .collect::<String>()
+    };
+    align(name, &[&text(script), &text(answers)])
+}
+
+const OPEN: &str = "100200001F4003E800FF00";
+const PLAY: &str = "1300010002000364000409";
+/// The first field of a dump's first line is the number of voices.
+const DUMP: &str = "00000000000000020000000000000000";
+
+#[test]
+fn records_are_counted() {
+    let silent = [
+        "12",
+        "15000001B8000002",
+        "16000001B8000003",
+        "170000",
+        "1800",
+        "19",
+    ];
+    let script = [&[OPEN], &silent[..], &["30", PLAY, "1D"]].concat();
+    assert_eq!(
+        count("all", &script, &["00", DUMP, "0", "0", "06FF", "0000"]),
+        "10 1\n"
+    );
+    // The last answers are missing.
+    assert_eq!(count("cut", &script, &["00", DUMP, "0", "0"]), "8 0\n");
+    let lines = [
+        "4800000004FF0000000003E800010000",
+        "46000002",
+        "4800000004FF00000001000200010000",
+        "1D",
+    ];
+    assert_eq!(
+        count("lines", &lines, &["00", "3F", "000001", "02", "FFFF"]),
+        "4 0\n"
+    );
+}
+
+/// A bad line is the last one that is read, also one whose record prints nothing when it is good.
+#[test]
+fn a_bad_line_ends_the_run() {
+    for bad in [
+        "15000001B8000003",
+        "16000001B8000004",
+        "1",
+        "120",
+        "12g0",
+        "1800000",
+        "1900",
+        "1700",
+        "2b",
+    ] {
+        let script = [OPEN, "19", bad, "19", PLAY];
+        assert_eq!(count("bad", &script, &["00", "FFFF"]), "3 0\n", "{bad}");
+    }
+    assert_eq!(
+        count("bad play", &[OPEN, "13", "19"], &["00", "FFFF"]),
+        "2 0\n"
+    );
+    // Before an engine is open, a refused one too.
+    assert_eq!(count("unopened", &["12", "19", "19"], &["FFFF"]), "2 0\n");
+    let refused = ["101100001F4003E800FF00", "1800", "19"];
+    assert_eq!(count("refused", &refused, &["01", "FFFF"]), "2 0\n");
+    // These answers look like one to a bad line.
+    let like = [OPEN, "4380", "52FFFF0000", "2B", "19"];
+    assert_eq!(
+        count("like", &like, &["00", "FFFF", "FFFF", "FFFF"]),
+        "5 0\n"
+    );
+}
+
+#[test]
+fn the_first_difference_is_shown() {
+    let script = format!("{OPEN}\n19\n30\n12\n{PLAY}\n1D\n");
+    let answers = format!("00\n{DUMP}\n0A\n0B\n0000\n0101\n");
+    let shown = |other: &str| align("shown", &[&script, &answers, other]);
+    let third = shown(&answers.replace("0B", "0C"));
+    assert!(third.starts_with("record 3: 30\n"), "{third}");
+    assert!(
+        third.contains(&format!("port:   {DUMP} / 0A / 0C\n")),
+        "{third}"
+    );
+    let fifth = shown(&answers.replace("0000\n0101", "05FF\n0101"));
+    assert!(fifth.starts_with(&format!("record 5: {PLAY}\n")), "{fifth}");
+    assert!(fifth.ends_with("oracle: 0000\nport:   05FF\n"), "{fifth}");
+    let ended = shown(&answers.replace("0101\n", ""));
+    assert!(ended.starts_with("record 6: 1D\n"), "{ended}");
+    assert!(ended.ends_with("port:   (nothing)\n"), "{ended}");
+    assert!(shown(&format!("{answers}00\n")).contains("after the last record"));
+}

@@ -14,16 +14,16 @@ test:
 	rt fmt --check
 	$(MAKE) --no-print-directory oracle-tests
 	rt check
-	tools/differential short target/bin/replay
+	tools/differential short target/bin/replay engine
 	rt ci
 
 differential:
 	rt check replay
-	tools/differential long target/bin/replay
+	tools/differential long target/bin/replay engine
 
 oracle-tests:
 	cargo test --release --offline --locked --quiet --manifest-path oracle/Cargo.toml --target-dir oracle/target
 
 # The list of the oracle's answers that `rt ci` replays with no Rust at hand.
 record:
-	tools/record crates/replay
+	tools/record crates/replay engine

@@ -1,14 +1,30 @@
-// Reads a script on standard input and writes the answers to standard output. What is answered to a line is the library's.
-ghost use Prim.Native.Nat.{_+_, _≤_};
+// Reads a script on standard input and writes the answers to standard output. What a line does and what is answered to it is the
+// library's.
+ghost use Prim.Native.Nat.{_+_, _≤_, _<_};
 ghost use lib.ListN.{length};
+ghost use Rattle.session.specs.Sessions.{ValidSession};
 use libc::STDIN_FILENO;
 use libc::STDOUT_FILENO;
+use session::Session;
 
 // How much of a line is kept, how many bytes of answers are held back, and whether the run goes on.
 struct State {
     line: usize,
     held: usize,
     more: bool,
+}
+
+// The run so far, line by line.
+struct Run {
+    state: State,
+    session: Session,
+}
+
+// How much of a line is kept, the place in the chunk after it, and whether the line ended.
+struct Filled {
+    line: usize,
+    next: usize,
+    ended: bool,
 }
 
 // Writes the first n bytes and says whether that went well.
@@ -46,81 +62,132 @@ fn keep(s: State, out: &[u8], n: usize, kept: &mut [u8; 65536]) -> State {
 }
 
 fn answered(
-    s: State,
+    r: Run,
     line: &[u8],
     n: usize,
+    lent: &mut [u8; 4096],
     out: &mut [u8; 262144],
     kept: &mut [u8; 65536],
-) -> State {
+) -> Run
+    requires { ⌜ ValidSession (r .session) ⌝ }
+    ensures { λ s. ⌜ ValidSession (s .session) ⌝ }
+{
+    let s = r.state;
+    let before = r.session;
     if n > line.len() {
-        return State { more: false, ..s };
+        let state = State { more: false, ..s };
+        return Run { state, ..r };
     }
-    let a = script::answer(&line[..n], out);
+    let a = session::answer(&line[..n], before, lent, out);
     let t = State {
         line: 0,
         held: s.held,
         more: a.more,
     };
-    keep(t, &*out, a.len, kept)
+    let after = a.session;
+    let state = keep(t, &*out, a.len, kept);
+    Run {
+        state,
+        session: after,
+    }
 }
 
-// A byte of input. A line of 8,195 bytes is bad wherever it ends, so it is answered at once.
-fn step(
-    s: State,
-    b: u8,
-    line: &mut [u8; 8195],
-    out: &mut [u8; 262144],
-    kept: &mut [u8; 65536],
-) -> State {
-    let n = s.line;
-    if b == 10 {
-        return answered(s, &*line, n, out, kept);
+// Bytes of input up to the line's end. A line of 8,195 bytes is bad wherever it ends, so it ends there.
+fn fill(line: &mut [u8; 8195], at: usize, chunk: &[u8], from: usize) -> Filled
+    requires { ⌜ from < length (now chunk) ⌝ }
+    ensures { λ r. ⌜ (from < r .next) × (r .next ≤ length (now (chunk .entry))) ⌝ }
+{
+    let mut n = at;
+    let mut i = from;
+    while i < chunk.len() {
+        let b = chunk[i];
+        i += 1;
+        if b == 10 {
+            return Filled {
+                line: n,
+                next: i,
+                ended: true,
+            };
+        }
+        if n >= 8195 {
+            return Filled {
+                line: 8195,
+                next: i,
+                ended: true,
+            };
+        }
+        line[n] = b;
+        n += 1;
+        if n == 8195 {
+            return Filled {
+                line: n,
+                next: i,
+                ended: true,
+            };
+        }
     }
-    if n >= 8195 {
-        return State { more: false, ..s };
+    Filled {
+        line: n,
+        next: i,
+        ended: false,
     }
-    line[n] = b;
-    if n == 8194 {
-        return answered(s, &*line, 8195, out, kept);
-    }
-    State { line: n + 1, ..s }
 }
 
+// The lines that end in the chunk, and what it begins of the next.
 fn feed(
-    s: State,
+    r: Run,
     chunk: &[u8],
     line: &mut [u8; 8195],
+    lent: &mut [u8; 4096],
     out: &mut [u8; 262144],
     kept: &mut [u8; 65536],
-) -> State {
-    let mut t = s;
+) -> Run
+    requires { ⌜ ValidSession (r .session) ⌝ }
+    ensures { λ s. ⌜ ValidSession (s .session) ⌝ }
+{
+    let mut t = r;
     let mut i = 0;
-    while i < chunk.len() && t.more {
-        t = step(t, chunk[i], line, out, kept);
-        i += 1;
+    while i < chunk.len() && t.state.more {
+        let s = t.state;
+        let f = fill(line, s.line, chunk, i);
+        i = f.next;
+        if f.ended {
+            t = answered(t, &*line, f.line, lent, out, kept);
+        } else {
+            let state = State { line: f.line, ..s };
+            t = Run { state, ..t };
+        }
     }
     t
 }
 
 // Reads once and answers the lines that ended. At the end of the input a last line may lack its newline.
 fn read_some(
-    s: State,
+    r: Run,
     line: &mut [u8; 8195],
+    lent: &mut [u8; 4096],
     out: &mut [u8; 262144],
     kept: &mut [u8; 65536],
-) -> State {
+) -> Run
+    requires { ⌜ ValidSession (r .session) ⌝ }
+    ensures { λ s. ⌜ ValidSession (s .session) ⌝ }
+{
     let mut chunk = io::large_buffer();
     let got = libc::read(STDIN_FILENO, &mut chunk);
     if got > 0 {
         let n = io::count(got, &chunk);
-        return feed(s, &chunk[..n], line, out, kept);
+        return feed(r, &chunk[..n], line, lent, out, kept);
     }
+    let s = r.state;
     let n = s.line;
     if n == 0 {
-        return State { more: false, ..s };
+        let state = State { more: false, ..s };
+        return Run { state, ..r };
     }
-    let t = answered(s, &*line, n, out, kept);
-    State { more: false, ..t }
+    let t = answered(r, &*line, n, lent, out, kept);
+    let u = t.state;
+    let state = State { more: false, ..u };
+    Run { state, ..t }
 }
 
 fn finish(kept: &[u8; 65536], held: usize) {
@@ -130,17 +197,23 @@ fn finish(kept: &[u8; 65536], held: usize) {
 // A proved loop has to end, and nothing says that the input does: the turns are counted down from a number that no run uses up.
 fn main() {
     let mut line = [0u8; 8195];
+    let mut lent = [0u8; 4096];
     let mut out = [0u8; 262144];
     let mut kept = [0u8; 65536];
-    let mut s = State {
+    let state = State {
         line: 0,
         held: 0,
         more: true,
     };
+    let mut r = Run {
+        state,
+        session: Session::new(),
+    };
     let mut turns = u64::MAX;
-    while turns > 0 && s.more {
-        s = read_some(s, &mut line, &mut out, &mut kept);
+    while turns > 0 && r.state.more {
+        r = read_some(r, &mut line, &mut lent, &mut out, &mut kept);
         turns -= 1;
     }
+    let s = r.state;
     finish(&kept, s.held);
 }

@@ -7,7 +7,7 @@ use native.Mathlib.Omega.{arith}
 use lib.ListN.{length, length-append}
 use lib.Seq.{sets}
 use Rattle.laws.proofs.Lists.{sets-append}
-use Rattle.script.specs.Hex.{Wrote}
+use Rattle.hex.specs.Hex.{Wrote}
 use Rattle.script.specs.Runs.{stepped, texts}
 
 module _ {S : Type 0} (step : S → S) where

@@ -1,7 +1,5 @@
 -- What the proofs here share.
---     Bits     two's complement as the code reads and writes it
---     Texts    runs of digits laid over a buffer
 --     Going    a run of steps with their texts, as a loop goes through it
-mod Bits
-mod Texts
+--     Done     a reply's text from place 0 on is the answer
 mod Going
+mod Done

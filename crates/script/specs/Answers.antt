@@ -4,7 +4,7 @@ use Prim.Native.Nat.{ℕ}
 use mathlib.Core.Bool.{Bool, true, false}
 use mathlib.Core.List.{List, _++_}
 use lib.ListN.{length, drop}
-use Rattle.script.specs.Hex.{hexOf, newline}
+use Rattle.hex.specs.Hex.{hexOf, newline}
 use Rattle.script.specs.Replies.{replyOf}
 use Rattle.script.specs.Runs.{levelsText, stateText, dutiesText}
 use Rattle.script.specs.Sounds.{sourceText}

@@ -1,11 +1,9 @@
 -- What a script's line is and what is answered to it, from the replay format and docs/REPLAY.md.
---     Hex        digits, the fields of a line, numbers as digits
 --     Replies    each record: what its fields are and what is answered
 --     Runs       the records of many answers
 --     Sounds     a source alone
 --     Voices     a voice alone
 --     Answers    the text of an answer
-pub mod Hex
 pub mod Replies
 pub mod Runs
 pub mod Sounds

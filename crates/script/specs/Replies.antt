@@ -29,7 +29,7 @@ use Rattle.config.specs.declared.FadeStep.the-variants.{Step}
 use Rattle.tier.specs.Kinds.{kindOf, byteOf}
 use Rattle.tier.specs.declared.KindRead.{KindRead}
 use Rattle.tier.specs.declared.KindRead.the-variants.{Kind, Unknown}
-use Rattle.script.specs.Hex.{allDigits, byteAt, wideAt, longAt}
+use Rattle.hex.specs.Hex.{allDigits, byteAt, wideAt, longAt}
 use Rattle.script.specs.declared.Reply.{Reply}
 use Rattle.script.specs.declared.Reply.the-variants.{Bad, Word, Levels, State, Duties, Source, Voice}
 

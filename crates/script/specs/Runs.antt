@@ -1,29 +1,23 @@
 -- The records of many answers: an envelope's levels (48) and state (58), a mapper's duties (57). Assumes nothing.
 use Prim.Native.Nat.{ℕ, zero, suc, _+_, _-_, _/_}
-use mathlib.Core.Bool.{cond}
 use mathlib.Core.List.{List, [], _++_}
-use lib.Dec.{eqb}
 use lib.ListN.{length}
 use mir.Syntax.{w32}
 use mir.Val.{ofZ}
 use Rattle.error.specs.Numbers.{numberOf}
 use Rattle.envelope.specs.Alone.{opened, triggeredEnvelope, releasedEnvelope, tickedEnvelope}
-use Rattle.envelope.specs.declared.AdsrSpec.{AdsrSpec}
-use Rattle.envelope.specs.declared.Adsr.{Adsr}
-use Rattle.envelope.specs.declared.AdsrPhase.{AdsrPhase}
-use Rattle.envelope.specs.declared.AdsrPhase.the-variants as A
 use Rattle.envelope.specs.declared.Envelope.{Envelope}
 use Rattle.envelope.specs.declared.Opened.{Opened}
 use Rattle.envelope.specs.declared.Opened.the-variants as O
 use Rattle.output.specs.Shapers.{fresh2ndOrder}
 use Rattle.output.specs.Duty.{periodRead, mapped}
-use Rattle.output.specs.declared.DutyMode.{DutyMode}
-use Rattle.output.specs.declared.DutyMode.the-variants as M
 use Rattle.output.specs.declared.Mapped.{Mapped}
 use Rattle.output.specs.declared.PeriodRead.{PeriodRead}
 use Rattle.output.specs.declared.PeriodRead.the-variants as P
 use Rattle.output.specs.declared.PwmMapper.{PwmMapper}
-use Rattle.script.specs.Hex.{byteAt, wideAt, longAt, hexOf, fourOf, newline}
+use Rattle.hex.specs.Hex.{byteAt, wideAt, longAt, hexOf, newline}
+use Rattle.fields.specs.Read.{specAt, modeOf}
+use Rattle.fields.specs.States.{adsrText}
 use Rattle.script.specs.Replies.{sampleAt, sumAt}
 
 -- what n steps make of s
@@ -39,11 +33,6 @@ texts step text (suc n) s = text (step s) ++ texts step text n (step s)
 -- a line of a number
 abbrev pub numberLine : ℕ → List ℕ
 numberLine n = hexOf 2 n ++ newline
-
--- "E": attack ms (2), decay ms (2), sustain (1), release ms (2), from byte k on
-abbrev pub specAt : List ℕ → ℕ → AdsrSpec
-specAt l k =
-    record { «attack_ms» = wideAt l k; «decay_ms» = wideAt l (k + 2); «sustain_q8» = byteAt l (k + 4); «release_ms» = wideAt l (k + 5) }
 
 -- E, then the rate (4)
 abbrev pub openedAt : List ℕ → Opened
@@ -66,21 +55,6 @@ levelsOf held left (O.Envelope e) =
 unfoldable pub levelsText : List ℕ → List ℕ
 levelsText l = levelsOf (wideAt l 12) (wideAt l 14) (openedAt l)
 
--- "phase (0 attack, 1 decay, 2 sustain, 3 release, 4 idle)"
-abbrev pub phaseNumber : AdsrPhase → ℕ
-phaseNumber A.Attack = 0
-phaseNumber A.Decay = 1
-phaseNumber A.Sustain = 2
-phaseNumber A.Release = 3
-phaseNumber A.Idle = 4
-
--- "attack, decay, sustain, release, phase, level, samples in phase, phase length, rate", 16 digits each
-abbrev pub adsrText : Adsr → List ℕ
-adsrText a =
-    fourOf (a .spec .«attack_ms») (a .spec .«decay_ms») (a .spec .«sustain_q8») (a .spec .«release_ms»)
-    ++ fourOf (phaseNumber (a .phase)) (a .«level_q8») (a .«samples_in_phase») (a .«phase_length_samples»)
-    ++ hexOf 16 (a .«sample_rate_hz»)
-
 -- 58, envelope state: "number; if 00, a second line: the state after trigger, the ticks, release and the ticks after"
 abbrev pub stateOf : ℕ → ℕ → Opened → List ℕ
 stateOf held left (O.Refused e) = numberLine (numberOf e)
@@ -88,10 +62,6 @@ stateOf held left (O.Envelope e) = numberLine 0 ++ adsrText (stepped tickedEnvel
 
 unfoldable pub stateText : List ℕ → List ℕ
 stateText l = stateOf (wideAt l 12) (wideAt l 14) (openedAt l)
-
--- "0 Linear, 1 SigmaDelta, 2 SigmaDelta2ndOrder"
-abbrev pub modeOf : ℕ → DutyMode
-modeOf n = cond (eqb n 0) M.Linear (cond (eqb n 1) M.SigmaDelta M.SigmaDelta2ndOrder)
 
 -- "a fresh mapper of that mode whose first-order sum is the one given"
 abbrev pub mapperAt : List ℕ → PwmMapper

@@ -1,48 +1,23 @@
 -- A source alone (60): how it starts, its requests, and the fields of its state. Assumes nothing.
 use Prim.Native.Nat.{ℕ, min}
-use mathlib.Core.Bool.{Bool, cond}
+use mathlib.Core.Bool.{cond}
 use mathlib.Core.List.{List, _++_}
 use lib.Dec.{leb, eqb}
-use lib.Ieee.{binary32, toBits}
 use mir.Syntax.{w8}
 use mir.Val.{ofZ}
 use Rattle.error.specs.Numbers.{numberOf}
 use Rattle.error.specs.declared.AudioError.the-variants as E
 use Rattle.fixed.specs.declared.Given.{Given}
 use Rattle.fixed.specs.declared.Given.the-variants as G
-use Rattle.fm.specs.declared.FmVoice.{FmVoice}
-use Rattle.polyblep.specs.declared.PolyBlepVoice.{PolyBlepVoice}
-use Rattle.polyblep.specs.declared.PolyBlepWaveform.{PolyBlepWaveform}
-use Rattle.polyblep.specs.declared.PolyBlepWaveform.the-variants as B
-use Rattle.tone.specs.declared.ToneVoice.{ToneVoice}
-use Rattle.tone.specs.declared.Waveform.{Waveform}
-use Rattle.tone.specs.declared.Waveform.the-variants as W
 use Rattle.voice.specs.Sources.{carrierGiven, steppedSource, toneSource, polyBlepSource, fmSource}
 use Rattle.voice.specs.declared.source.VoiceSource.{VoiceSource}
-use Rattle.voice.specs.declared.source.VoiceSource.the-variants as S
 use Rattle.voice.specs.declared.source.Carrier.{Carrier}
 use Rattle.voice.specs.declared.source.Carrier.the-variants as C
 use Rattle.voice.specs.declared.source.SourceStep.{SourceStep}
-use Rattle.script.specs.Hex.{byteAt, wideAt, threeAt, longAt, hexOf, fourOf, newline}
+use Rattle.hex.specs.Hex.{byteAt, wideAt, threeAt, longAt, hexOf, newline}
+use Rattle.fields.specs.Read.{toneWaveform, polyBlepWaveform}
+use Rattle.fields.specs.States.{sourceFields}
 use Rattle.script.specs.Runs.{stepped, texts, numberLine}
-
--- the waveforms in the order of the source's types
-abbrev pub toneWaveform : ℕ → Waveform
-toneWaveform n = cond (eqb n 0) W.Square (cond (eqb n 1) W.Sine W.Triangle)
-
-abbrev pub polyBlepWaveform : ℕ → PolyBlepWaveform
-polyBlepWaveform n = cond (eqb n 0) B.Sine (cond (eqb n 1) B.Sawtooth (cond (eqb n 2) B.Square B.Triangle))
-
-abbrev pub toneNumber : Waveform → ℕ
-toneNumber W.Square = 0
-toneNumber W.Sine = 1
-toneNumber W.Triangle = 2
-
-abbrev pub polyBlepNumber : PolyBlepWaveform → ℕ
-polyBlepNumber B.Sine = 0
-polyBlepNumber B.Sawtooth = 1
-polyBlepNumber B.Square = 2
-polyBlepNumber B.Triangle = 3
 
 unfoldable pub sourceAt : List ℕ → VoiceSource
 sourceAt l =
@@ -76,35 +51,6 @@ givenNumber G.None = 0x100
 
 abbrev pub givenText : SourceStep → List ℕ
 givenText s = hexOf 4 (givenNumber (s .given))
-
-abbrev pub flagNumber : Bool → ℕ
-flagNumber b = cond b 1 0
-
--- "then the source as in a dump, 16 digits a field": its number, and its fields in their order
-abbrev pub toneFields : ToneVoice → List ℕ
-toneFields v =
-    fourOf 1 (v .phase) (v .«phase_inc») (toneNumber (v .waveform))
-    ++ hexOf 16 (v .«samples_left»)
-    ++ hexOf 16 (flagNumber (v .active))
-
-abbrev pub polyBlepFields : PolyBlepVoice → List ℕ
-polyBlepFields v =
-    let o = v .osc in
-    fourOf 2 (toBits binary32 (o .phase)) (toBits binary32 (o .«phase_inc»)) (polyBlepNumber (o .waveform))
-    ++ fourOf (o .«freq_hz») (o .«sample_rate_hz») (v .«samples_left») (flagNumber (v .active))
-
-abbrev pub fmFields : FmVoice → List ℕ
-fmFields v =
-    fourOf 3 (v .«carrier_phase») (v .«carrier_inc») (v .«mod_phase»)
-    ++ hexOf 16 (v .«mod_inc»)
-    ++ hexOf 16 (v .«mod_depth_q8»)
-    ++ hexOf 16 (flagNumber (v .active))
-
-abbrev pub sourceFields : VoiceSource → List ℕ
-sourceFields S.Idle = hexOf 16 0
-sourceFields (S.Tone v) = toneFields v
-sourceFields (S.PolyBlep v) = polyBlepFields v
-sourceFields (S.Fm v) = fmFields v
 
 -- "the carrier's Hz (8 digits, 0 for none)"
 abbrev pub carrierNumber : Carrier → ℕ

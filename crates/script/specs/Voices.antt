@@ -14,9 +14,11 @@ use Rattle.voice.specs.declared.VoiceStep.{VoiceStep}
 use Rattle.voice.specs.declared.StereoGiven.{StereoGiven}
 use Rattle.voice.specs.declared.StereoGiven.the-variants as P
 use Rattle.voice.specs.declared.StereoStep.{StereoStep}
-use Rattle.script.specs.Hex.{byteAt, threeAt, longAt, hexOf, fourOf, newline}
-use Rattle.script.specs.Runs.{stepped, texts, numberLine, specAt, adsrText}
-use Rattle.script.specs.Sounds.{sourceAt, printedAt, givenNumber, flagNumber, sourceFields}
+use Rattle.hex.specs.Hex.{byteAt, threeAt, longAt, hexOf, newline}
+use Rattle.fields.specs.Read.{specAt}
+use Rattle.script.specs.Runs.{stepped, texts, numberLine}
+use Rattle.fields.specs.States.{flagNumber, voiceFields}
+use Rattle.script.specs.Sounds.{sourceAt, printedAt, givenNumber}
 
 -- "starts a silent voice with that source, gain and pan, and triggers the envelope"
 unfoldable pub voiceAt : List ℕ → Voice
@@ -74,13 +76,6 @@ framesText stereo n v = cond (eqb stereo 1) (texts stereoFrame pairText n (noPai
 
 abbrev pub framesLast : ℕ → ℕ → Voice → Voice
 framesLast stereo n v = cond (eqb stereo 1) (stepped stereoFrame n (noPair v) .voice) (stepped monoFrame n (noFrame v) .voice)
-
--- "then the voice as in a dump": source, envelope, gain, priority, pan, rate
-abbrev pub voiceFields : Voice → List ℕ
-voiceFields v =
-    sourceFields (v .source)
-    ++ adsrText (v .adsr)
-    ++ fourOf (v .«gain_q8») (v .priority) (v .«pan_q8») (v .«sample_rate_hz»)
 
 -- the printed frames, the state they leave, "whether it is audible (2 digits)"
 abbrev pub voiceRun : List ℕ → List ℕ

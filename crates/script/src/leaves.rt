@@ -3,9 +3,9 @@ ghost use mathlib.Core.Path.{_≡_};
 ghost use lib.Ieee.{binary32, ofBits};
 ghost use Rattle.script.specs.Replies.{gainReply, lerpReply, panReply, incrementReply, sineReply, toGainReply, toDecibelsReply, phaseReply, crossfadeReply, clampReply, kindReply};
 use crate::Reply;
-use crate::hex::byte_at;
-use crate::hex::long_at;
-use crate::hex::signed32;
+use hex::byte_at;
+use hex::long_at;
+use hex::signed32;
 use tier::EffectKind;
 use tier::KindRead;
 

@@ -6,12 +6,10 @@ use hex::all_digits;
 use hex::byte_at;
 use hex::put_line;
 
-mod hex;
 mod leaves;
 mod outputs;
 mod runs;
 mod sounds;
-mod states;
 mod voices;
 
 // What is answered to a line: that it is bad, a number in so many digits, or one of the runs.

@@ -7,23 +7,22 @@ ghost use Rattle.envelope.specs.declared.Opened.the-variants as O;
 ghost use Rattle.output.specs.declared.PeriodRead.the-variants as P;
 ghost use Rattle.output.specs.Duty.{ValidPeriod, ValidMapper, ValidMapped};
 ghost use Rattle.laws.specs.Made.{Made};
-ghost use Rattle.script.specs.Hex.{wideAt, longAt, Wrote};
-ghost use Rattle.script.specs.Runs.{stepped, texts, specAt, levelText, levelsOf, levelsText, phaseNumber, adsrText, stateOf, stateText, modeOf, mapperAt, mapStep, dutyText, mapperLine, dutiesOf, dutiesText};
-use crate::hex::byte_at;
-use crate::hex::end_line;
-use crate::hex::long_at;
-use crate::hex::put;
-use crate::hex::put_four;
-use crate::hex::put_line;
-use crate::hex::signed32;
-use crate::hex::unsigned32;
-use crate::hex::wide_at;
-use envelope::Adsr;
-use envelope::AdsrPhase;
-use envelope::AdsrSpec;
+ghost use Rattle.hex.specs.Hex.{wideAt, longAt, Wrote};
+ghost use Rattle.fields.specs.Read.{specAt};
+ghost use Rattle.script.specs.Runs.{stepped, texts, levelText, levelsOf, levelsText, stateOf, stateText, mapperAt, mapStep, dutyText, mapperLine, dutiesOf, dutiesText};
 use envelope::Envelope;
 use envelope::Opened;
-use output::DutyMode;
+use fields::mode_of;
+use fields::put_adsr;
+use fields::spec_at;
+use hex::byte_at;
+use hex::end_line;
+use hex::long_at;
+use hex::put;
+use hex::put_line;
+use hex::signed32;
+use hex::unsigned32;
+use hex::wide_at;
 use output::Mapped;
 use output::Period;
 use output::PeriodRead;
@@ -34,19 +33,6 @@ use output::SigmaDelta;
 struct Ticked {
     envelope: Envelope,
     next: usize,
-}
-
-// An envelope's times, from byte k on.
-pub(crate) fn spec_at(l: &[u8], k: usize) -> AdsrSpec
-    requires { ⌜ k ≤ 60000 ⌝ }
-    ensures { λ r. ⌜ r ≡ specAt (now (l .entry)) k ⌝ }
-{
-    AdsrSpec {
-        attack_ms: wide_at(l, k),
-        decay_ms: wide_at(l, k + 2),
-        sustain_q8: byte_at(l, k + 4),
-        release_ms: wide_at(l, k + 5),
-    }
 }
 
 fn open_at(l: &[u8]) -> Opened
@@ -109,43 +95,6 @@ fn ticked_by(first: Envelope, count: u16) -> Envelope
     e
 }
 
-fn phase_number(p: AdsrPhase) -> u64
-    ensures { λ r. ⌜ r ≡ phaseNumber p ⌝ }
-{
-    match p {
-        AdsrPhase::Attack => 0,
-        AdsrPhase::Decay => 1,
-        AdsrPhase::Sustain => 2,
-        AdsrPhase::Release => 3,
-        AdsrPhase::Idle => 4,
-    }
-}
-
-pub(crate) fn put_adsr(out: &mut [u8; 262144], at: usize, a: Adsr) -> usize
-    requires { ⌜ at ≤ 200000 ⌝ }
-    ensures { λ r. ⌜ Wrote (now (out .entry)) at (adsrText a) (now (out .exit)) r × (r ≡ at + 144) ⌝ }
-{
-    let s = a.spec;
-    let p = a.phase;
-    let times = put_four(
-        out,
-        at,
-        s.attack_ms as u64,
-        s.decay_ms as u64,
-        s.sustain_q8 as u64,
-        s.release_ms as u64,
-    );
-    let state = put_four(
-        out,
-        times,
-        phase_number(p),
-        a.level_q8 as u64,
-        a.samples_in_phase as u64,
-        a.phase_length_samples as u64,
-    );
-    put(out, state, a.sample_rate_hz as u64, 16)
-}
-
 fn run_state(l: &[u8], e: Envelope, out: &mut [u8; 262144]) -> usize
     requires { ⌜ ValidEnvelope e ⌝ }
     ensures { λ r. ⌜ Wrote (now (out .entry)) 0 (stateOf (wideAt (now (l .entry)) 12) (wideAt (now (l .entry)) 14) (O.Envelope e)) (now (out .exit)) r ⌝ }
@@ -171,16 +120,6 @@ pub(crate) fn state(l: &[u8], out: &mut [u8; 262144]) -> usize
 struct MappedTo {
     last: Mapped,
     next: usize,
-}
-
-fn mode_of(n: u8) -> DutyMode
-    ensures { λ r. ⌜ r ≡ modeOf n ⌝ }
-{
-    match n {
-        0 => DutyMode::Linear,
-        1 => DutyMode::SigmaDelta,
-        _ => DutyMode::SigmaDelta2ndOrder,
-    }
 }
 
 fn mapper_at(l: &[u8]) -> PwmMapper

@@ -3,22 +3,22 @@ ghost use mathlib.Core.Path.{_≡_};
 ghost use Prim.Native.Nat.{_+_, _*_, _≤_, _<_, min};
 ghost use Rattle.laws.specs.Made.{Made};
 ghost use Rattle.voice.specs.Sources.{ValidSource, ValidStep};
-ghost use Rattle.script.specs.Hex.{wideAt, Wrote};
+ghost use Rattle.hex.specs.Hex.{wideAt, Wrote};
 ghost use Rattle.script.specs.Replies.{waveformsOf, sourceReply};
 ghost use Rattle.script.specs.Runs.{stepped, texts};
-ghost use Rattle.script.specs.Sounds.{toneWaveform, polyBlepWaveform, sourceAt, passedOver, request, givenNumber, givenText, carrierNumber, sourceRun, sourceText};
+ghost use Rattle.script.specs.Sounds.{sourceAt, passedOver, request, givenNumber, givenText, carrierNumber, sourceRun, sourceText};
 use crate::Reply;
-use crate::hex::byte_at;
-use crate::hex::end_line;
-use crate::hex::long_at;
-use crate::hex::put;
-use crate::hex::put_line;
-use crate::hex::three_at;
-use crate::hex::wide_at;
-use crate::states::put_source;
+use fields::polyblep_waveform;
+use fields::put_source;
+use fields::tone_waveform;
 use fixed::Given;
-use polyblep::PolyBlepWaveform;
-use tone::Waveform;
+use hex::byte_at;
+use hex::end_line;
+use hex::long_at;
+use hex::put;
+use hex::put_line;
+use hex::three_at;
+use hex::wide_at;
 use voice::Carrier;
 use voice::SourceStep;
 use voice::VoiceSource;
@@ -51,27 +51,6 @@ pub(crate) fn source_reply(l: &[u8]) -> Reply
         Reply::Source
     } else {
         Reply::Bad
-    }
-}
-
-fn tone_waveform(n: u8) -> Waveform
-    ensures { λ r. ⌜ r ≡ toneWaveform n ⌝ }
-{
-    match n {
-        0 => Waveform::Square,
-        1 => Waveform::Sine,
-        _ => Waveform::Triangle,
-    }
-}
-
-fn polyblep_waveform(n: u8) -> PolyBlepWaveform
-    ensures { λ r. ⌜ r ≡ polyBlepWaveform n ⌝ }
-{
-    match n {
-        0 => PolyBlepWaveform::Sine,
-        1 => PolyBlepWaveform::Sawtooth,
-        2 => PolyBlepWaveform::Square,
-        _ => PolyBlepWaveform::Triangle,
     }
 }
 

@@ -3,28 +3,26 @@ ghost use mathlib.Core.Path.{_≡_};
 ghost use Prim.Native.Nat.{_+_, _*_, _≤_};
 ghost use Rattle.laws.specs.Made.{Made};
 ghost use Rattle.voice.specs.Voices.{Valid, ValidVoiceStep, ValidStereoStep};
-ghost use Rattle.script.specs.Hex.{longAt, Wrote};
+ghost use Rattle.hex.specs.Hex.{longAt, Wrote};
 ghost use Rattle.script.specs.Replies.{voiceReply};
 ghost use Rattle.script.specs.Runs.{stepped, texts};
-ghost use Rattle.script.specs.Voices.{voiceAt, letGoIf, heldAt, passedFrame, monoFrame, stereoFrame, frameText, leftNumber, rightNumber, pairOf, pairText, framesText, framesLast, voiceFields, voiceRun, voiceText};
+ghost use Rattle.script.specs.Voices.{voiceAt, letGoIf, heldAt, passedFrame, monoFrame, stereoFrame, frameText, leftNumber, rightNumber, pairOf, pairText, framesText, framesLast, voiceRun, voiceText};
 use crate::Reply;
-use crate::hex::byte_at;
-use crate::hex::end_line;
-use crate::hex::long_at;
-use crate::hex::put;
-use crate::hex::put_four;
-use crate::hex::put_line;
-use crate::hex::three_at;
-use crate::hex::wide_at;
-use crate::runs::put_adsr;
-use crate::runs::spec_at;
 use crate::sounds::given_number;
 use crate::sounds::printed_at;
 use crate::sounds::source_at;
 use crate::sounds::waveforms;
-use crate::states::flag_number;
-use crate::states::put_source;
+use fields::flag_number;
+use fields::put_voice;
+use fields::spec_at;
 use fixed::Given;
+use hex::byte_at;
+use hex::end_line;
+use hex::long_at;
+use hex::put;
+use hex::put_line;
+use hex::three_at;
+use hex::wide_at;
 use voice::StereoGiven;
 use voice::StereoStep;
 use voice::Voice;
@@ -191,22 +189,6 @@ fn put_frames(out: &mut [u8; 262144], at: usize, stereo: u8, voice: Voice, count
         };
         frames(out, at, first, count)
     }
-}
-
-fn put_voice(out: &mut [u8; 262144], at: usize, v: Voice) -> usize
-    requires { ⌜ at ≤ 150000 ⌝ }
-    requires { ⌜ Valid v ⌝ }
-    ensures { λ r. ⌜ Wrote (now (out .entry)) at (voiceFields v) (now (out .exit)) r × (r ≤ at + 336) ⌝ }
-{
-    let s = v.source;
-    let a = v.adsr;
-    let gain = v.gain_q8 as u64;
-    let priority = v.priority as u64;
-    let pan = v.pan_q8 as u64;
-    let rate = v.sample_rate_hz as u64;
-    let n1 = put_source(out, at, s);
-    let n2 = put_adsr(out, n1, a);
-    put_four(out, n2, gain, priority, pan, rate)
 }
 
 fn run_voice(l: &[u8], out: &mut [u8; 262144]) -> usize

@@ -1,4 +1,4 @@
--- `replay::answered` is safe: the part that is lent is within the whole.
+-- `replay::answered` is safe and keeps the run valid: the part that is lent is within the whole.
 use borrow.Author.Needs.{needs}
 use native.Mathlib.Omega.{arith}
 use lib.ListN.{length-take}

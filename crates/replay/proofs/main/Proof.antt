@@ -1,13 +1,15 @@
--- `replay::main` is safe and ends. The measure is the number of turns that are left; nothing has to hold from turn to turn.
+-- `replay::main` is safe and ends. The measure is the number of turns that are left; from turn to turn the run stays valid.
+use borrow.Author.Needs.{needs}
 use native.Mathlib.Omega.{arith}
+use Rattle.session.specs.Sessions.{ValidSession}
 use Rattle.replay.proofs.main.Statement.{statement}
 use Rattle.replay.proofs.main.Tie as tie
 
 abbrev Inv-loop : tie.InvT-loop
-Inv-loop line₀ out₀ kept₀ s₀ turns₀ line out kept s turns = Unit {0}
+Inv-loop line₀ lent₀ out₀ kept₀ r₀ turns₀ line lent out kept r turns = ValidSession (r .session)
 
 abbrev μ-loop : tie.MeasureT-loop
-μ-loop line₀ out₀ kept₀ s₀ turns₀ line out kept s turns = turns
+μ-loop line₀ lent₀ out₀ kept₀ r₀ turns₀ line lent out kept r turns = turns
 
 pub main-spec : {M : Type 1} → statement M
 main-spec =
@@ -15,10 +17,11 @@ main-spec =
     (tie.spec
     Inv-loop
     μ-loop
-    (λ c. tt)
-    (λ c κs. tt)
+    (λ c κs. search needs)
+    (λ c. search needs)
+    (λ c κs. search needs)
     (λ c. omega arith)
     (λ c. omega arith)
-    (λ c. tt)
-    (λ c κs. tt)
-    (λ c. tt))
+    (λ c. search needs)
+    (λ c κs. search needs)
+    (λ c. search needs))

@@ -1,7 +1,7 @@
 -- `script::answer` meets its contract: each reply's text was written from place 0 on.
 use borrow.Author.Needs.{needs}
 use mathlib.Core.Path.{sym, _∙_}
-use Rattle.script.proofs.Texts.{done, short}
+use Rattle.script.proofs.Done.{done, short}
 use Rattle.script.proofs.answer.Statement.{statement}
 use Rattle.script.proofs.answer.Tie as tie
 

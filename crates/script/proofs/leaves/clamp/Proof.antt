@@ -1,6 +1,6 @@
 -- `script::leaves::clamp` meets its contract, by what its callees ensure.
 use mir.Syntax.{w8, w32}
-use Rattle.script.proofs.Bits.{back}
+use Rattle.hex.proofs.Bits.{back}
 use Rattle.script.specs.Replies.{clampReply}
 use borrow.Author.Needs.{needs}
 use Rattle.script.proofs.leaves.clamp.Statement.{statement}

@@ -1,6 +1,6 @@
 -- `script::leaves::gain` meets its contract, by what its callees ensure.
 use mir.Syntax.{w8}
-use Rattle.script.proofs.Bits.{back}
+use Rattle.hex.proofs.Bits.{back}
 use Rattle.script.specs.Replies.{gainReply}
 use borrow.Author.Needs.{needs}
 use Rattle.script.proofs.leaves.gain.Statement.{statement}

@@ -5,7 +5,7 @@ use mathlib.Core.List.{List}
 use Prim.Native.Nat.{ℕ}
 use Rattle.tier.specs.Kinds.{kindOf}
 use Rattle.tier.specs.declared.KindRead.{KindRead}
-use Rattle.script.specs.Hex.{byteAt}
+use Rattle.hex.specs.Hex.{byteAt}
 use Rattle.script.specs.Replies.{kindReply, kindAnswer}
 use Rattle.script.proofs.leaves.kind.Statement.{statement}
 use Rattle.script.proofs.leaves.kind.Tie as tie

@@ -2,7 +2,7 @@
 use borrow.Author.Needs.{needs}
 use mir.Syntax.{w8, w32}
 use Rattle.script.specs.Replies.{conversion32Reply}
-use Rattle.script.proofs.Bits.{back}
+use Rattle.hex.proofs.Bits.{back}
 use Rattle.script.proofs.outputs.conversion_to_i32.Statement.{statement}
 use Rattle.script.proofs.outputs.conversion_to_i32.Tie as tie
 

@@ -2,7 +2,7 @@
 use borrow.Author.Needs.{needs}
 use mir.Syntax.{w8, w16}
 use Rattle.script.specs.Replies.{conversionsReply}
-use Rattle.script.proofs.Bits.{back}
+use Rattle.hex.proofs.Bits.{back}
 use Rattle.script.proofs.outputs.conversions.Statement.{statement}
 use Rattle.script.proofs.outputs.conversions.Tie as tie
 

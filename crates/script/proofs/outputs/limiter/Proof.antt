@@ -3,7 +3,7 @@ use borrow.Author.Needs.{needs}
 use mathlib.Core.Path.{_≡_, sym, _∙_}
 use mir.Syntax.{w8, w32}
 use Rattle.script.specs.Replies.{limiterReply, limitedAnswer}
-use Rattle.script.proofs.Bits.{back}
+use Rattle.hex.proofs.Bits.{back}
 use Rattle.script.proofs.outputs.limiter.Statement.{statement}
 use Rattle.script.proofs.outputs.limiter.Tie as tie
 

@@ -7,8 +7,8 @@ use Rattle.output.specs.Duty.{ValidMapped, mapped}
 use Rattle.output.specs.declared.Mapped.{Mapped}
 use Rattle.script.specs.Replies.{sampleAt}
 use Rattle.script.specs.Runs.{mapStep, dutyText}
-use Rattle.script.proofs.Bits.{back}
-use Rattle.script.proofs.Texts.{length-hexOf}
+use Rattle.hex.proofs.Bits.{back}
+use Rattle.hex.proofs.Texts.{length-hexOf}
 use Rattle.script.proofs.Going.{Going, going-start, going-turn, going-end, stepped-none}
 use Rattle.script.proofs.runs.map_all.Statement.{statement}
 use Rattle.script.proofs.runs.map_all.Tie as tie

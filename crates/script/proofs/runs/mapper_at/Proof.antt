@@ -1,7 +1,7 @@
 -- `script::runs::mapper_at` meets its contract: a fresh mapper's second shaper is valid.
 use borrow.Author.Needs.{needs}
 use mir.Syntax.{w32}
-use Rattle.script.proofs.Bits.{back}
+use Rattle.hex.proofs.Bits.{back}
 use Rattle.script.proofs.runs.mapper_at.Statement.{statement}
 use Rattle.script.proofs.runs.mapper_at.Tie as tie
 

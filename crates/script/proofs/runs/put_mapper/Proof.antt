@@ -3,8 +3,8 @@ use borrow.Author.Needs.{needs}
 use mathlib.Core.Path.{ap, _∙_}
 use mir.Syntax.{w32}
 use mir.Val.{ofZ}
-use Rattle.script.proofs.Bits.{back}
-use Rattle.script.proofs.Texts.{shown, then}
+use Rattle.hex.proofs.Bits.{back}
+use Rattle.hex.proofs.Texts.{shown, then}
 use Rattle.script.proofs.runs.put_mapper.Statement.{statement}
 use Rattle.script.proofs.runs.put_mapper.Tie as tie
 

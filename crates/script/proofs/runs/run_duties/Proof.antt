@@ -1,7 +1,7 @@
 -- `script::runs::run_duties` meets its contract: three texts, one after the other.
 use borrow.Author.Needs.{needs}
 use mathlib.Core.Path.{sym}
-use Rattle.script.proofs.Texts.{then}
+use Rattle.hex.proofs.Texts.{then}
 use Rattle.script.proofs.runs.run_duties.Statement.{statement}
 use Rattle.script.proofs.runs.run_duties.Tie as tie
 

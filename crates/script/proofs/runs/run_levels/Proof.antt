@@ -2,7 +2,7 @@
 use borrow.Author.Needs.{needs}
 use mathlib.Core.Path.{sym}
 use native.Mathlib.Omega.{arith}
-use Rattle.script.proofs.Texts.{then}
+use Rattle.hex.proofs.Texts.{then}
 use Rattle.script.proofs.runs.run_levels.Statement.{statement}
 use Rattle.script.proofs.runs.run_levels.Tie as tie
 

@@ -2,7 +2,7 @@
 use borrow.Author.Needs.{needs}
 use native.Mathlib.Omega.{arith}
 use mathlib.Core.Path.{sym}
-use Rattle.script.proofs.Texts.{then}
+use Rattle.hex.proofs.Texts.{then}
 use Rattle.script.proofs.runs.run_state.Statement.{statement}
 use Rattle.script.proofs.runs.run_state.Tie as tie
 

@@ -1,7 +1,7 @@
 -- `script::runs::state` meets its contract: each variant is the definition's.
 use borrow.Author.Needs.{needs}
 use mathlib.Core.Path.{_≡_, sym}
-use Rattle.script.specs.Hex.{wideAt}
+use Rattle.hex.specs.Hex.{wideAt}
 use Rattle.script.specs.Runs.{stateOf, stateText}
 use Rattle.script.proofs.runs.state.Statement.{statement}
 use Rattle.script.proofs.runs.state.Tie as tie

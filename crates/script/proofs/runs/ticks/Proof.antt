@@ -4,7 +4,7 @@ use Prim.Native.Nat.{_+_, _*_}
 use native.Mathlib.Omega.{arith}
 use Rattle.envelope.specs.Alone.{ValidEnvelope, tickedEnvelope}
 use Rattle.script.specs.Runs.{levelText}
-use Rattle.script.proofs.Texts.{length-hexOf, shown}
+use Rattle.hex.proofs.Texts.{length-hexOf, shown}
 use Rattle.script.proofs.Going.{Going, going-start, going-turn, going-end, stepped-none}
 use Rattle.script.proofs.runs.ticks.Statement.{statement}
 use Rattle.script.proofs.runs.ticks.Tie as tie

@@ -2,7 +2,7 @@
 use native.Mathlib.Omega.{arith}
 use mathlib.Core.Path.{sym, _∙_, refl, _≡_}
 use Prim.Native.Nat.{_+_, _*_}
-use Rattle.script.proofs.Texts.{shown, length-hexOf}
+use Rattle.hex.proofs.Texts.{shown, length-hexOf}
 use Rattle.script.proofs.Going.{Going, going-start, going-turn, going-end, stepped-none}
 use Rattle.voice.specs.Sources.{ValidStep}
 use Rattle.script.specs.Sounds.{request, givenNumber, givenText}

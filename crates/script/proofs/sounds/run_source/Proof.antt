@@ -1,7 +1,7 @@
 -- `script::sounds::run_source` meets its contract: five texts, one after the other, of the source that the requests before left.
 use borrow.Author.Needs.{needs}
 use mathlib.Core.Path.{sym}
-use Rattle.script.proofs.Texts.{then}
+use Rattle.hex.proofs.Texts.{then}
 use Rattle.script.proofs.sounds.run_source.Statement.{statement}
 use Rattle.script.proofs.sounds.run_source.Tie as tie
 

@@ -2,7 +2,7 @@
 use native.Mathlib.Omega.{arith}
 use mathlib.Core.Path.{sym, ap, _∙_, refl, _≡_}
 use Prim.Native.Nat.{_+_, _*_}
-use Rattle.script.proofs.Texts.{shown, length-hexOf}
+use Rattle.hex.proofs.Texts.{shown, length-hexOf}
 use Rattle.script.proofs.Going.{Going, going-start, going-turn, going-end, stepped-none}
 use Rattle.voice.specs.Voices.{ValidVoiceStep, steppedVoice}
 use Rattle.voice.specs.declared.VoiceStep.{VoiceStep}

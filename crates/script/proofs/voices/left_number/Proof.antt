@@ -1,7 +1,7 @@
 -- `script::voices::left_number` meets its contract: a sample is printed by its bits.
 use borrow.Author.Needs.{needs}
 use mir.Syntax.{w8}
-use Rattle.script.proofs.Bits.{back}
+use Rattle.hex.proofs.Bits.{back}
 use Rattle.script.proofs.voices.left_number.Statement.{statement}
 use Rattle.script.proofs.voices.left_number.Tie as tie
 

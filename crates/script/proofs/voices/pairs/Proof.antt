@@ -3,7 +3,7 @@ use native.Mathlib.Omega.{arith}
 use mathlib.Core.Path.{sym, ap, _∙_, refl, _≡_}
 use Prim.Native.Nat.{_+_, _*_}
 use lib.ListN.{length, length-append}
-use Rattle.script.proofs.Texts.{length-hexOf}
+use Rattle.hex.proofs.Texts.{length-hexOf}
 use Rattle.script.proofs.Going.{Going, going-start, going-turn, going-end, stepped-none}
 use Rattle.voice.specs.Voices.{ValidStereoStep, stereoStep}
 use Rattle.voice.specs.declared.StereoGiven.{StereoGiven}

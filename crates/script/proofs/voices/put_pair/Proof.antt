@@ -1,7 +1,7 @@
 -- `script::voices::put_pair` meets its contract: two texts, one after the other.
 use borrow.Author.Needs.{needs}
 use native.Mathlib.Omega.{arith}
-use Rattle.script.proofs.Texts.{then, shown}
+use Rattle.hex.proofs.Texts.{then, shown}
 use Rattle.script.proofs.voices.put_pair.Statement.{statement}
 use Rattle.script.proofs.voices.put_pair.Tie as tie
 

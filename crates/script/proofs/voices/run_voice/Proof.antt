@@ -1,7 +1,7 @@
 -- `script::voices::run_voice` meets its contract: five texts, one after the other, of the voice that the frames before left.
 use borrow.Author.Needs.{needs}
 use mathlib.Core.Path.{sym}
-use Rattle.script.proofs.Texts.{then}
+use Rattle.hex.proofs.Texts.{then}
 use Rattle.script.proofs.voices.run_voice.Statement.{statement}
 use Rattle.script.proofs.voices.run_voice.Tie as tie
 

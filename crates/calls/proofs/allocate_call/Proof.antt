@@ -1,0 +1,19 @@
+-- `calls::allocate_call` meets its contract: what the engine promises, with the fields of the line.
+use borrow.Author.Needs.{needs}
+use Rattle.calls.specs.Calls.{allocateCall}
+use Rattle.calls.proofs.allocate_call.Statement.{statement}
+use Rattle.calls.proofs.allocate_call.Tie as tie
+
+returns : tie.Need-returns
+unfolding allocateCall
+returns c =
+    record { same = cc; valid = c .before .before .before .before .pre }
+
+pub allocate-call-spec : {M : Type 1} → statement M
+allocate-call-spec =
+    tie.close
+    (tie.spec
+    (λ c κs. search needs)
+    (λ c κs. search needs)
+    (λ c κs. search needs)
+    returns)

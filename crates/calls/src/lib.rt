@@ -1,0 +1,283 @@
+// The records of an open engine: each makes its call and says what is answered.
+ghost use mathlib.Core.Path.{_≡_};
+ghost use mathlib.Core.Bool.{_&&_};
+ghost use lib.Dec.{leb};
+ghost use Rattle.laws.specs.Made.{Made};
+ghost use Rattle.hex.specs.Hex.{byteAt};
+ghost use Rattle.engine.specs.Engines.{ValidEngine};
+ghost use Rattle.calls.specs.Calls.{ValidCalled, sizedAs, allowed, outcomeReply, playReply, bankCall, playCall, fadeCall, toneCall, polyBlepCall, panCall, gainCall, stopCall, entryReply, searchCall, allocatedReply, allocateCall, audibleCall, callFor, called};
+use allocate::Allocated;
+use bank::EffectEntry;
+use bank::EntryRead;
+use engine::AudioEngine;
+use fields::flag_number;
+use fields::polyblep_waveform;
+use fields::spec_at;
+use fields::tone_waveform;
+use hex::byte_at;
+use hex::long_at;
+use hex::wide_at;
+use mixer::Outcome;
+use play::PlayOutcome;
+
+// What is answered: that the line is bad, nothing, one number or two, an entry, the part of the bank that was asked for, the state.
+pub enum Reply {
+    Bad,
+    Nothing,
+    Number(u64),
+    Two(u64, u64),
+    Entry(EffectEntry),
+    Payload,
+    Dump,
+}
+
+// The engine after the call.
+pub struct Called {
+    pub reply: Reply,
+    pub engine: AudioEngine,
+}
+
+// 15 and 16: the last waveform of each is given.
+fn has_waveform(l: &[u8], last: u8) -> bool
+    ensures { λ r. ⌜ r ≡ sizedAs 7 (now (l .entry)) && leb (byteAt (now (l .entry)) 7) last ⌝ }
+{
+    l.len() == 16 && byte_at(l, 7) <= last
+}
+
+// The length of a record's line and what its last field may be.
+fn is_allowed(code: u8, l: &[u8]) -> bool
+    ensures { λ r. ⌜ r ≡ allowed code (now (l .entry)) ⌝ }
+{
+    let n = l.len();
+    match code {
+        0x11 => n == 14,
+        0x13 => n == 22,
+        0x14 => n == 24,
+        0x15 => has_waveform(l, 2),
+        0x16 => has_waveform(l, 3),
+        0x17 => n == 6,
+        0x18 => n == 4,
+        0x19 => n == 2,
+        0x1a => n == 6,
+        0x1b => n == 14,
+        0x1c => n == 4,
+        0x1d => n == 2,
+        0x30 => n == 2,
+        _ => false,
+    }
+}
+
+fn outcome_reply(o: Outcome) -> Reply
+    ensures { λ r. ⌜ r ≡ outcomeReply o ⌝ }
+{
+    match o {
+        Outcome::Done => Reply::Number(0),
+        Outcome::Refused(e) => Reply::Number(e.number() as u64),
+    }
+}
+
+fn play_reply(o: PlayOutcome) -> Reply
+    ensures { λ r. ⌜ r ≡ playReply o ⌝ }
+{
+    match o {
+        PlayOutcome::Voice(i) => Reply::Two(0, i as u64),
+        PlayOutcome::Refused(e) => Reply::Two(e.number() as u64, 0xff),
+    }
+}
+
+fn entry_reply(r: EntryRead) -> Reply
+    ensures { λ s. ⌜ s ≡ entryReply r ⌝ }
+{
+    match r {
+        EntryRead::Entry(entry) => Reply::Entry(entry),
+        EntryRead::Refused(e) => Reply::Number(e.number() as u64),
+    }
+}
+
+fn allocated_reply(a: Allocated) -> Reply
+    ensures { λ r. ⌜ r ≡ allocatedReply a ⌝ }
+{
+    match a {
+        Allocated::Voice(i) => Reply::Two(0, i as u64),
+        Allocated::None => Reply::Two(5, 0xff),
+    }
+}
+
+fn bank_call(l: &[u8], bytes: &[u8], e: AudioEngine) -> Called
+    requires { ⌜ ValidEngine e ⌝ }
+    ensures { λ r. ⌜ Made ValidCalled (bankCall (now (l .entry)) (now (bytes .entry)) e) r ⌝ }
+{
+    let c = e.set_bank(bytes, long_at(l, 1), wide_at(l, 5));
+    let outcome = c.outcome;
+    let engine = c.engine;
+    Called {
+        reply: outcome_reply(outcome),
+        engine,
+    }
+}
+
+fn play_call(l: &[u8], bytes: &[u8], e: AudioEngine) -> Called
+    requires { ⌜ ValidEngine e ⌝ }
+    ensures { λ r. ⌜ Made ValidCalled (playCall (now (l .entry)) (now (bytes .entry)) e) r ⌝ }
+{
+    let adsr = spec_at(l, 3);
+    let p = e.play_with_priority(bytes, wide_at(l, 1), adsr, byte_at(l, 10));
+    let outcome = p.outcome;
+    let engine = p.engine;
+    Called {
+        reply: play_reply(outcome),
+        engine,
+    }
+}
+
+fn fade_call(l: &[u8], bytes: &[u8], e: AudioEngine) -> Called
+    requires { ⌜ ValidEngine e ⌝ }
+    ensures { λ r. ⌜ Made ValidCalled (fadeCall (now (l .entry)) (now (bytes .entry)) e) r ⌝ }
+{
+    let adsr = spec_at(l, 5);
+    let c = e.crossfade_to(bytes, wide_at(l, 1), wide_at(l, 3), adsr);
+    let outcome = c.outcome;
+    let engine = c.engine;
+    Called {
+        reply: outcome_reply(outcome),
+        engine,
+    }
+}
+
+fn tone_call(l: &[u8], e: AudioEngine) -> Called
+    requires { ⌜ ValidEngine e ⌝ }
+    ensures { λ r. ⌜ Made ValidCalled (toneCall (now (l .entry)) e) r ⌝ }
+{
+    let waveform = tone_waveform(byte_at(l, 7));
+    let engine = e.play_tone(long_at(l, 1), wide_at(l, 5), waveform);
+    Called {
+        reply: Reply::Nothing,
+        engine,
+    }
+}
+
+fn polyblep_call(l: &[u8], e: AudioEngine) -> Called
+    requires { ⌜ ValidEngine e ⌝ }
+    ensures { λ r. ⌜ Made ValidCalled (polyBlepCall (now (l .entry)) e) r ⌝ }
+{
+    let waveform = polyblep_waveform(byte_at(l, 7));
+    let engine = e.play_polyblep(long_at(l, 1), wide_at(l, 5), waveform);
+    Called {
+        reply: Reply::Nothing,
+        engine,
+    }
+}
+
+fn pan_call(l: &[u8], e: AudioEngine) -> Called
+    requires { ⌜ ValidEngine e ⌝ }
+    ensures { λ r. ⌜ Made ValidCalled (panCall (now (l .entry)) e) r ⌝ }
+{
+    let engine = e.set_voice_pan(byte_at(l, 1) as usize, byte_at(l, 2));
+    Called {
+        reply: Reply::Nothing,
+        engine,
+    }
+}
+
+fn gain_call(l: &[u8], e: AudioEngine) -> Called
+    requires { ⌜ ValidEngine e ⌝ }
+    ensures { λ r. ⌜ Made ValidCalled (gainCall (now (l .entry)) e) r ⌝ }
+{
+    let engine = e.set_master_gain_q8(byte_at(l, 1));
+    Called {
+        reply: Reply::Nothing,
+        engine,
+    }
+}
+
+fn stop_call(e: AudioEngine) -> Called
+    requires { ⌜ ValidEngine e ⌝ }
+    ensures { λ r. ⌜ Made ValidCalled (stopCall e) r ⌝ }
+{
+    let engine = e.stop_all();
+    Called {
+        reply: Reply::Nothing,
+        engine,
+    }
+}
+
+fn search_call(l: &[u8], bytes: &[u8], e: AudioEngine) -> Called
+    requires { ⌜ ValidEngine e ⌝ }
+    ensures { λ r. ⌜ Made ValidCalled (searchCall (now (l .entry)) (now (bytes .entry)) e) r ⌝ }
+{
+    let found = e.find_by_id(bytes, wide_at(l, 1));
+    Called {
+        reply: entry_reply(found),
+        engine: e,
+    }
+}
+
+fn allocate_call(l: &[u8], e: AudioEngine) -> Called
+    requires { ⌜ ValidEngine e ⌝ }
+    ensures { λ r. ⌜ Made ValidCalled (allocateCall (now (l .entry)) e) r ⌝ }
+{
+    let a = e.allocate_voice(byte_at(l, 1));
+    Called {
+        reply: allocated_reply(a),
+        engine: e,
+    }
+}
+
+fn audible_call(e: AudioEngine) -> Called
+    requires { ⌜ ValidEngine e ⌝ }
+    ensures { λ r. ⌜ Made ValidCalled (audibleCall e) r ⌝ }
+{
+    let playing = flag_number(e.is_playing());
+    let count = e.active_voice_count() as u64;
+    Called {
+        reply: Reply::Two(playing, count),
+        engine: e,
+    }
+}
+
+fn call_for(code: u8, l: &[u8], bytes: &[u8], e: AudioEngine) -> Called
+    requires { ⌜ ValidEngine e ⌝ }
+    ensures { λ r. ⌜ Made ValidCalled (callFor code (now (l .entry)) (now (bytes .entry)) e) r ⌝ }
+{
+    match code {
+        0x11 => bank_call(l, bytes, e),
+        0x13 => play_call(l, bytes, e),
+        0x14 => fade_call(l, bytes, e),
+        0x15 => tone_call(l, e),
+        0x16 => polyblep_call(l, e),
+        0x17 => pan_call(l, e),
+        0x18 => gain_call(l, e),
+        0x19 => stop_call(e),
+        0x1a => search_call(l, bytes, e),
+        0x1b => Called {
+            reply: Reply::Payload,
+            engine: e,
+        },
+        0x1c => allocate_call(l, e),
+        0x1d => audible_call(e),
+        0x30 => Called {
+            reply: Reply::Dump,
+            engine: e,
+        },
+        _ => Called {
+            reply: Reply::Bad,
+            engine: e,
+        },
+    }
+}
+
+// A line of one of these records over an open engine and the bytes lent.
+pub fn call(l: &[u8], bytes: &[u8], e: AudioEngine) -> Called
+    requires { ⌜ ValidEngine e ⌝ }
+    ensures { λ r. ⌜ Made ValidCalled (called (now (l .entry)) (now (bytes .entry)) e) r ⌝ }
+{
+    let code = byte_at(l, 0);
+    if is_allowed(code, l) {
+        call_for(code, l, bytes, e)
+    } else {
+        Called {
+            reply: Reply::Bad,
+            engine: e,
+        }
+    }
+}

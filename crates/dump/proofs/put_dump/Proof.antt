@@ -1,0 +1,24 @@
+-- `dump::put_dump` meets its contract: four texts, one after the other.
+use borrow.Author.Needs.{needs}
+use Rattle.hex.proofs.Texts.{then}
+use Rattle.dump.specs.Dumps.{dumpText}
+use Rattle.dump.proofs.put_dump.Statement.{statement}
+use Rattle.dump.proofs.put_dump.Tie as tie
+
+returns : tie.Need-returns
+unfolding dumpText
+returns c =
+    let e = c .before .before in
+    let r = e .before .before in
+    let s = r .before .before in
+    then (then (then (s .put-settings .ensures .0) (r .put-running .ensures .0)) (e .end-line .ensures)) (c .put-voices .ensures)
+
+pub put-dump-spec : {M : Type 1} → statement M
+put-dump-spec =
+    tie.close
+    (tie.spec
+    (λ c κs. search needs)
+    (λ c κs. search needs)
+    (λ c κs. search needs)
+    (λ c κs. search needs)
+    returns)

@@ -1,0 +1,77 @@
+-- `fields::put_polyblep` meets its contract: two texts, one after the other. A phase and a step in their ranges are no NaN.
+use borrow.Author.Needs.{needs}
+use native.Mathlib.Omega.{arith}
+use mathlib.Core.Path.{sym}
+use mathlib.Core.Bool.{not}
+use Prim.Native.Nat.{ℕ}
+use lib.Dec.{T}
+use lib.Ieee.{Float, nan, inf, fin, isNan}
+use Rattle.hex.proofs.Texts.{then}
+use Rattle.polyblep.specs.Ranges.{below, atMost}
+use Rattle.fields.proofs.put_polyblep.Statement.{statement}
+use Rattle.fields.proofs.put_polyblep.Tie as tie
+
+below-some : (a b : ℕ) (x : Float) → T (below a b x) → T (not (isNan x))
+unfolding below isNan
+below-some a b (inf s) h = tt
+below-some a b (fin s m e) h = tt
+
+atMost-some : (a b : ℕ) (x : Float) → T (atMost a b x) → T (not (isNan x))
+unfolding atMost isNan
+atMost-some a b (inf s) h = tt
+atMost-some a b (fin s m e) h = tt
+
+bits-of-requires : tie.Need-bits-of-requires
+bits-of-requires c κs =
+    let b1 = c .before in
+    let b2 = b1 .before in
+    rw (c .phase .ensures, b1 .oscillator .ensures) (below-some 1 1 _ (b2 .pre .1 .osc .phase))
+
+bits-of-requires-2 : tie.Need-bits-of-requires-2
+bits-of-requires-2 c κs =
+    let b1 = c .before .before .before in
+    let b2 = b1 .before in
+    rw (c .phase-inc .ensures, b1 .oscillator .ensures) (atMost-some 8371831 16777216 _ (b2 .pre .1 .osc .step))
+
+returns : tie.Need-returns
+returns c =
+    let b1 = c .before .before in
+    let b2 = b1 .before .before in
+    let b3 = b2 .before in
+    let b4 = b3 .before in
+    let b5 = b4 .before in
+    let b6 = b5 .before in
+    let b7 = b6 .before in
+    let b8 = b7 .before in
+    let b9 = b8 .before in
+    let b10 = b9 .before in
+    let b11 = b10 .before in
+    let b12 = b11 .before in
+    let b13 = b12 .before in (
+      rw (sym (b13 .oscillator .ensures), sym (b12 .phase .ensures), sym (b11 .bits-of .ensures), sym (b10 .phase-inc .ensures), sym (b9 .bits-of2 .ensures), sym (b8 .waveform .ensures), sym (b7 .polyblep-number .ensures), sym (b6 .frequency .ensures), sym (b5 .sample-rate-hz .ensures), sym (b4 .samples-left .ensures), sym (b3 .is-active .ensures), sym (b2 .flag-number .ensures))
+          (then (b1 .put-four .ensures .0) (c .put-four2 .ensures .0)),
+      omega (arith, c .put-four2 .ensures .1, b1 .put-four .ensures .1),
+    )
+
+pub put-polyblep-spec : {M : Type 1} → statement M
+put-polyblep-spec =
+    tie.close
+    (tie.spec
+    (λ c κs. search needs)
+    (λ c κs. search needs)
+    bits-of-requires
+    (λ c κs. search needs)
+    bits-of-requires-2
+    (λ c κs. search needs)
+    (λ c κs. search needs)
+    (λ c κs. search needs)
+    (λ c. search needs)
+    (λ c κs. search needs)
+    (λ c. search needs)
+    (λ c κs. search needs)
+    (λ c. search needs)
+    (λ c κs. search needs)
+    (λ c κs. search needs)
+    (λ c κs. search needs)
+    (λ c κs. search needs)
+    returns)

@@ -1,0 +1,56 @@
+-- `replies::put_reply` meets its contract: each variant is the definition's.
+use borrow.Author.Needs.{needs}
+use mathlib.Core.Path.{refl, sym}
+use native.Mathlib.Omega.{arith}
+use Rattle.replies.proofs.put_reply.Statement.{statement}
+use Rattle.replies.proofs.put_reply.Tie as tie
+
+put-dump-requires : tie.Need-put-dump-requires
+put-dump-requires c κs = rw (c .before .state .ensures) (c .before .before .before .before .before .before .pre .inside)
+
+returns : tie.Need-returns
+returns c = rw (c .before .before .enum-told .given .1) (c .put-line .ensures .0)
+
+returns-2 : tie.Need-returns-2
+returns-2 c = rw (c .enum-told2 .given .1) (record { laid = refl; place = refl; room = omega arith })
+
+returns-3 : tie.Need-returns-3
+returns-3 c = rw (c .before .before .before .reply .given .1) (c .put-line2 .ensures .0)
+
+returns-4 : tie.Need-returns-4
+returns-4 c = rw (c .before .before .before .reply2 .given .1) (c .put-two .ensures)
+
+returns-5 : tie.Need-returns-5
+returns-5 c = rw (c .before .before .before .reply3 .given .1) (c .put-entry .ensures)
+
+returns-6 : tie.Need-returns-6
+returns-6 c = rw (c .before .before .enum-told3 .given .1) (c .put-payload .ensures)
+
+returns-7 : tie.Need-returns-7
+returns-7 c = rw (c .before .before .before .enum-told4 .given .1, sym (c .before .before .state .ensures)) (c .put-dump .ensures)
+
+pub put-reply-spec : {M : Type 1} → statement M
+put-reply-spec =
+    tie.close
+    (tie.spec
+    (λ c. search needs)
+    (λ c κs. search needs)
+    (λ c. search needs)
+    (λ c. search needs)
+    (λ c κs. search needs)
+    (λ c. search needs)
+    (λ c κs. search needs)
+    (λ c. search needs)
+    (λ c κs. search needs)
+    (λ c. search needs)
+    (λ c κs. search needs)
+    (λ c. search needs)
+    (λ c κs. search needs)
+    put-dump-requires
+    returns
+    returns-2
+    returns-3
+    returns-4
+    returns-5
+    returns-6
+    returns-7)

@@ -1,0 +1,102 @@
+// Each reply as text, from the front of the buffer on.
+ghost use mathlib.Core.Path.{_≡_};
+ghost use Prim.Native.Nat.{_+_, _*_, _≤_};
+ghost use lib.ListN.{length};
+ghost use Rattle.engine.specs.Engines.{ValidEngine};
+ghost use Rattle.hex.specs.Hex.{Wrote};
+ghost use Rattle.replies.specs.Texts.{bytesText, entryText, payloadNumber, payloadText, twoText, replyText};
+use bank::EffectEntry;
+use bank::PayloadRead;
+use calls::Reply;
+use dump::put_dump;
+use engine::AudioEngine;
+use hex::end_line;
+use hex::long_at;
+use hex::put;
+use hex::put_line;
+use hex::wide_at;
+
+fn put_two(out: &mut [u8; 262144], a: u64, b: u64) -> usize
+    ensures { λ r. ⌜ Wrote (now (out .entry)) 0 (twoText a b) (now (out .exit)) r ⌝ }
+{
+    let n1 = put(out, 0, a, 2);
+    let n2 = put(out, n1, b, 2);
+    end_line(out, n2)
+}
+
+fn put_entry(out: &mut [u8; 262144], e: EffectEntry) -> usize
+    ensures { λ r. ⌜ Wrote (now (out .entry)) 0 (entryText e) (now (out .exit)) r ⌝ }
+{
+    let kind = e.kind;
+    let n1 = put(out, 0, 0, 2);
+    let n2 = put(out, n1, kind.as_u8() as u64, 2);
+    let n3 = put(out, n2, e.flags as u64, 2);
+    let n4 = put(out, n3, e.default_gain_q8 as u64, 2);
+    let n5 = put(out, n4, e.param0 as u64, 4);
+    let n6 = put(out, n5, e.param1 as u64, 4);
+    let n7 = put(out, n6, e.offset as u64, 8);
+    let n8 = put(out, n7, e.len as u64, 8);
+    end_line(out, n8)
+}
+
+fn payload_number(p: PayloadRead) -> u64
+    ensures { λ r. ⌜ r ≡ payloadNumber p ⌝ }
+{
+    match p {
+        PayloadRead::Whole => 0,
+        PayloadRead::Refused(e) => e.number() as u64,
+    }
+}
+
+// Bytes, two digits each.
+fn put_bytes(out: &mut [u8; 262144], at: usize, bytes: &[u8]) -> usize
+    requires { ⌜ at + 2 * length (now bytes) ≤ 262144 ⌝ }
+    ensures { λ r. ⌜ Wrote (now (out .entry)) at (bytesText (now (bytes .entry))) (now (out .exit)) r ⌝ }
+    ensures { λ r. ⌜ r ≡ at + 2 * length (now (bytes .entry)) ⌝ }
+{
+    let mut next = at;
+    let mut i = 0;
+    while i < bytes.len() {
+        next = put(out, next, bytes[i] as u64, 2);
+        i += 1;
+    }
+    next
+}
+
+// A part of the bank is of at most 65,535 bytes, since its length has two.
+fn put_payload(l: &[u8], bytes: &[u8], e: AudioEngine, out: &mut [u8; 262144]) -> usize
+    ensures { λ r. ⌜ Wrote (now (out .entry)) 0 (payloadText (e .state .bank) (now (l .entry)) (now (bytes .entry))) (now (out .exit)) r ⌝ }
+{
+    let offset = long_at(l, 1);
+    let len = wide_at(l, 5) as u32;
+    let read = e.payload_number(bytes, offset, len);
+    let number = payload_number(read);
+    let part = e.payload(bytes, offset, len);
+    let n = put(out, 0, number, 2);
+    let end = put_bytes(out, n, part);
+    end_line(out, end)
+}
+
+pub fn put_reply(
+    reply: Reply,
+    l: &[u8],
+    bytes: &[u8],
+    e: AudioEngine,
+    out: &mut [u8; 262144],
+) -> usize
+    requires { ⌜ ValidEngine e ⌝ }
+    ensures { λ r. ⌜ Wrote (now (out .entry)) 0 (replyText reply (now (l .entry)) (now (bytes .entry)) (e .state)) (now (out .exit)) r ⌝ }
+{
+    match reply {
+        Reply::Bad => put_line(out, 0xffff, 4),
+        Reply::Nothing => 0,
+        Reply::Number(n) => put_line(out, n, 2),
+        Reply::Two(a, b) => put_two(out, a, b),
+        Reply::Entry(entry) => put_entry(out, entry),
+        Reply::Payload => put_payload(l, bytes, e, out),
+        Reply::Dump => {
+            let m = e.state();
+            put_dump(out, m)
+        }
+    }
+}

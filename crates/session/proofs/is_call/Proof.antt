@@ -1,0 +1,39 @@
+-- `session::is_call` meets its contract: each way through the tests is a way through the definition's.
+use native.Mathlib.Omega.{arith}
+use borrow.Author.Tests.{ne-eqb, le-leb, lt-leb}
+use Rattle.session.proofs.is_call.Statement.{statement}
+use Rattle.session.proofs.is_call.Tie as tie
+
+returns : tie.Need-returns
+returns c = rw (c .match .keys1)
+
+returns-2 : tie.Need-returns-2
+returns-2 c = rw (c .match .keys2)
+
+returns-3 : tie.Need-returns-3
+returns-3 c =
+    let m = c .before .before in
+    let x = m .before .args .code in
+    rw (ne-eqb _ _ (m .match .rest .0 .1), le-leb 0x13 x (omega arith), le-leb x 0x1D (omega arith))
+
+returns-4 : tie.Need-returns-4
+returns-4 c =
+    let m = c .before in
+    let x = m .before .args .code in
+    rw (ne-eqb _ _ (m .match .rest .0 .1), lt-leb 0x13 x (omega arith), ne-eqb _ _ (m .match .rest .1))
+
+returns-5 : tie.Need-returns-5
+returns-5 c =
+    let m = c .before .before in
+    let x = m .before .args .code in
+    rw (ne-eqb _ _ (m .match .rest .0 .1), le-leb 0x13 x (omega arith), lt-leb x 0x1D (omega arith), ne-eqb _ _ (m .match .rest .1))
+
+pub is-call-spec : {M : Type 1} → statement M
+is-call-spec =
+    tie.close
+    (tie.spec
+    returns
+    returns-2
+    returns-3
+    returns-4
+    returns-5)

@@ -1,0 +1,120 @@
+-- Each definition keeps a state valid. Assumes nothing.
+use Prim.Native.Nat.{ℕ, _≤_, _<_}
+use native.Mathlib.Omega.{arith}
+use mathlib.Core.Path.{_≡_, refl}
+use mathlib.Core.Bool.{Bool, true, false, cond}
+use lib.Dec.{eqb}
+use lib.ListN.{length, set, length-set}
+use lib.Seq.{drop-set-lt}
+use Rattle.laws.specs.Lists.{All, mapFirst}
+use Rattle.laws.proofs.Bools.{never}
+use Rattle.laws.proofs.Lists.{all-set, all-mapFirst, length-mapFirst, drop-mapFirst}
+use Rattle.mixer.specs.Mixers.{Valid, withVoices}
+use Rattle.mixer.specs.declared.Mixer.{Mixer}
+use Rattle.mixer.proofs.Laws.{valid-voice}
+use Rattle.voice.specs.Voices as S
+use Rattle.voice.specs.declared.Voice.{Voice}
+use Rattle.voice.proofs.Laws as L
+use Rattle.frame.specs.Fades.{takenOver, voiceAt, fadeEnded, fadeAt, nextT, advanced}
+use Rattle.frame.specs.Frames.{enveloped, sampled, sampledCount, monoFrame, stereoFrame}
+
+-- the first k voices replaced by what f makes of them
+pub valid-mapped : {m : Mixer} (f : Voice → Voice) → ((v : Voice) → S.Valid v → S.Valid (f v)) → (k : ℕ) → k ≤ m .n → Valid m → Valid (withVoices m (mapFirst f k (m .voices)))
+valid-mapped {m} f keeps k l h =
+    record {
+      few = h .few;
+      full = rw (length-mapFirst f k (m .voices), h .full);
+      each = all-mapFirst S.Valid f keeps k (m .voices) (h .each);
+      rest = rw (drop-mapFirst f k (m .n) (m .voices) l, h .rest);
+      bank = h .bank;
+      rate = h .rate;
+      period = h .period;
+      mapper = h .mapper;
+      fade = h .fade;
+    }
+
+pub valid-taken : (old new : Voice) → S.Valid old → S.Valid new → S.Valid (takenOver old new)
+unfolding takenOver
+valid-taken old new h k = record { rate = h .rate; source = k .source; adsr = L.valid-stopped h .adsr }
+
+pub valid-ended : {m : Mixer} → Valid m → 2 ≤ m .n → Valid (fadeEnded m)
+unfolding fadeEnded
+valid-ended {m} h k =
+    let d = S.silentVoice 0 in
+    let a = valid-voice 0 d h (omega arith) in
+    let b = valid-voice 1 d h (omega arith) in
+    let first = takenOver (voiceAt m 0) (voiceAt m 1) in
+    let vs = set (m .voices) 0 first in
+    record {
+      few = h .few;
+      full = rw (length-set, length-set, h .full);
+      each =
+          all-set S.Valid vs 1 (S.stoppedVoice (voiceAt m 1))
+          (all-set S.Valid (m .voices) 0 first (h .each) (valid-taken (voiceAt m 0) (voiceAt m 1) a b))
+          (L.valid-stopped b);
+      rest =
+          rw (
+            drop-set-lt (m .n) vs 1 (S.stoppedVoice (voiceAt m 1)) (omega arith),
+            drop-set-lt (m .n) (m .voices) 0 first (omega arith),
+            h .rest,
+          );
+      bank = h .bank;
+      rate = h .rate;
+      period = h .period;
+      mapper = h .mapper;
+      fade = λ e. never e;
+    }
+
+valid-at : {m : Mixer} (t : ℕ) → Valid m → Valid (fadeAt m t)
+unfolding fadeAt
+valid-at t h =
+    record {
+      few = h .few;
+      full = h .full;
+      each = h .each;
+      rest = h .rest;
+      bank = h .bank;
+      rate = h .rate;
+      period = h .period;
+      mapper = h .mapper;
+      fade = h .fade;
+    }
+
+pub valid-advanced : {m : Mixer} → Valid m → Valid (advanced m)
+unfolding advanced
+valid-advanced {m} h = by-active (m .«crossfade_active») refl
+  where
+    by-end : m .«crossfade_active» ≡ true → (e : Bool) → Valid (cond e (fadeEnded m) (fadeAt m (nextT m)))
+    by-end a true = valid-ended h (h .fade a .0)
+    by-end a false = valid-at (nextT m) h
+
+    by-active : (a : Bool) → m .«crossfade_active» ≡ a → Valid (cond a (cond (eqb (nextT m) 255) (fadeEnded m) (fadeAt m (nextT m))) m)
+    by-active true a = by-end a (eqb (nextT m) 255)
+    by-active false a = h
+
+pub valid-enveloped : {m : Mixer} → Valid m → Valid (enveloped m)
+unfolding enveloped
+valid-enveloped {m} h = valid-mapped S.tickedVoice (λ v k. L.valid-ticked {v = v} k) (m .n) (omega arith) h
+
+pub valid-sampled : {m : Mixer} (k : ℕ) → k ≤ m .n → Valid m → Valid (sampled k m)
+unfolding sampled
+valid-sampled k l h = valid-mapped (λ v. S.steppedVoice v .voice) (λ v g. L.valid-stepped {v = v} g) k l h
+
+-- as many voices as are sampled are there
+pub sampled-there : {m : Mixer} → Valid m → sampledCount m ≤ m .n
+sampled-there {m} h = by-active (m .«crossfade_active») refl
+  where
+    by-active : (a : Bool) → m .«crossfade_active» ≡ a → cond a 2 (m .n) ≤ m .n
+    by-active true a = h .fade a .0
+    by-active false a = omega arith
+
+-- both frames
+pub valid-mono : {m : Mixer} → Valid m → Valid (monoFrame m .mixer)
+unfolding monoFrame
+valid-mono {m} h =
+    let b = valid-enveloped (valid-advanced h) in
+    valid-sampled (sampledCount (enveloped (advanced m))) (sampled-there b) b
+
+pub valid-stereo : {m : Mixer} → Valid m → Valid (stereoFrame m .mixer)
+unfolding stereoFrame
+valid-stereo {m} h = let b = valid-enveloped (valid-advanced h) in valid-sampled (enveloped (advanced m) .n) (omega arith) b

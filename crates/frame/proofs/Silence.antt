@@ -1,0 +1,140 @@
+-- What is silent stays silent. Assumes nothing.
+use Prim.Native.Nat.{ℕ, suc, _+_, _*_, _/_, _≤_, _<_}
+use native.Mathlib.Nat.{zero-mul}
+use native.Mathlib.Omega.{arith}
+use mathlib.Core.Path.{_≡_, refl, sym, _∙_}
+use mathlib.Core.Bool.{Bool, true, false, cond, _||_}
+use mathlib.Core.List.{List, [], _∷_, map}
+use lib.Dec.{eqb}
+use lib.IntN.{ℤ, pos, _+ℤ_}
+use lib.ListN.{length, getD, take, set}
+use lib.Seq.{take-set-lt, getD-take, length-take-le}
+use Rattle.envelope.proofs.Laws.{idle-inactive}
+use Rattle.envelope.specs.Adsrs as A
+use Rattle.fixed.specs.declared.Given.{Given}
+use Rattle.fixed.specs.declared.Given.the-variants as G
+use Rattle.laws.specs.Lists.{All, mapFirst}
+use Rattle.laws.proofs.Lists.{all-set, all-get, all-map, all-imp, all-take, take-mapFirst, mapFirst-same}
+use Rattle.mixer.specs.Mixers.{Valid, voicesOf, withVoices}
+use Rattle.mixer.specs.declared.Mixer.{Mixer}
+use Rattle.voice.specs.Sources.{activeSource}
+use Rattle.voice.specs.Voices.{silentVoice, stoppedVoice, audible, tickedVoice, steppedVoice, stereoStep}
+use Rattle.voice.specs.declared.source.VoiceSource.the-variants as S
+use Rattle.voice.specs.declared.StereoGiven.{StereoGiven}
+use Rattle.voice.specs.declared.StereoGiven.the-variants as P
+use Rattle.frame.proofs.Laws.{valid-advanced, valid-enveloped, sampled-there}
+use Rattle.voice.specs.declared.Voice.{Voice}
+use Rattle.voice.proofs.Laws.{or-false, ticked-silent, stepped-idle}
+use Rattle.frame.specs.Fades.{takenOver, voiceAt, fadeEnded, fadeAt, nextT, advanced}
+use Rattle.frame.specs.Frames.{enveloped, sampled, leveled, total, givenCount, averaged, crossed, sampleOf, sampledCount, monoMix, monoFrame, leftOf, rightOf, sideTotal, stereoFrame}
+
+abbrev Inaudible : Voice → Type 0
+Inaudible v = audible v ≡ false
+
+-- no voice can be heard
+abbrev pub Silent : Mixer → Type 0
+Silent m = All Inaudible (voicesOf m)
+
+-- nothing is left to sound
+abbrev Idle : Voice → Type 0
+Idle v = (audible v ≡ false) × (v .source ≡ S.Idle)
+
+stopped-inaudible : (v : Voice) → Inaudible (stoppedVoice v)
+unfolding stoppedVoice audible activeSource
+stopped-inaudible v = idle-inactive A.clickSpec (v .«sample_rate_hz»)
+
+taken-inaudible : (old new : Voice) → Inaudible new → Inaudible (takenOver old new)
+unfolding takenOver stoppedVoice audible
+taken-inaudible old new h =
+    rw (or-false (activeSource (new .source)) (A.active (new .adsr)) h .0) (idle-inactive A.clickSpec (old .«sample_rate_hz»))
+
+advance-silent : (m : Mixer) → Valid m → Silent m → Silent (advanced m)
+unfolding advanced fadeEnded fadeAt
+advance-silent m h s = by-active (m .«crossfade_active») refl
+  where
+    ended : 2 ≤ m .n → All Inaudible (take (m .n) (set (set (m .voices) 0 (takenOver (voiceAt m 0) (voiceAt m 1))) 1 (stoppedVoice (voiceAt m 1))))
+    ended k =
+        let d = silentVoice 0 in
+        let l : length (voicesOf m) ≡ m .n = length-take-le (m .n) (m .voices) (omega (arith, h .few, h .full)) in
+        let one : Inaudible (voiceAt m 1) = rw (← getD-take (m .n) (m .voices) 1 d (omega arith)) (all-get Inaudible (voicesOf m) 1 d s (omega arith)) in
+        let zero : Inaudible (takenOver (voiceAt m 0) (voiceAt m 1)) = taken-inaudible (voiceAt m 0) (voiceAt m 1) one in
+        rw (
+          take-set-lt (m .n) (set (m .voices) 0 (takenOver (voiceAt m 0) (voiceAt m 1))) 1 (stoppedVoice (voiceAt m 1)) (omega arith),
+          take-set-lt (m .n) (m .voices) 0 (takenOver (voiceAt m 0) (voiceAt m 1)) (omega arith),
+        )
+        (all-set Inaudible (set (voicesOf m) 0 (takenOver (voiceAt m 0) (voiceAt m 1))) 1 (stoppedVoice (voiceAt m 1))
+        (all-set Inaudible (voicesOf m) 0 (takenOver (voiceAt m 0) (voiceAt m 1)) s zero)
+        (stopped-inaudible (voiceAt m 1)))
+
+    by-end : m .«crossfade_active» ≡ true → (e : Bool) → Silent (cond e (fadeEnded m) (fadeAt m (nextT m)))
+    by-end a true = ended (h .fade a .0)
+    by-end a false = s
+
+    by-active : (a : Bool) → m .«crossfade_active» ≡ a → Silent (cond a (cond (eqb (nextT m) 255) (fadeEnded m) (fadeAt m (nextT m))) m)
+    by-active true a = by-end a (eqb (nextT m) 255)
+    by-active false a = s
+
+envelope-silent : (m : Mixer) → Silent m → All Idle (voicesOf (enveloped m))
+unfolding enveloped
+envelope-silent m s = rw (take-mapFirst tickedVoice (m .n) (m .voices)) (all-map Inaudible Idle tickedVoice ticked-silent (voicesOf m) s)
+
+-- ---- an idle voice gives no sample, and so no frame a sound
+same-sampled : (k : ℕ) (m : Mixer) → k ≤ m .n → All Idle (voicesOf m) → sampled k m ≡ m
+unfolding sampled
+same-sampled k m h a =
+    rw
+    (mapFirst-same (λ v. steppedVoice v .voice) k (m .voices)
+    (all-imp Idle (λ v. steppedVoice v .voice ≡ v) (λ v i. stepped-idle v (i .1) .1) (take k (m .voices)) (all-take Idle k (m .n) (m .voices) h a)))
+
+no-sample : (l : List Voice) → All Idle l → (total (map sampleOf l) ≡ pos 0) × (givenCount (map sampleOf l) ≡ 0)
+unfolding total givenCount
+no-sample [] a = (refl, refl)
+no-sample (v ∷ l) a = rw (stepped-idle v (a .0 .1) .0) (no-sample l (a .1))
+
+no-mix : (m : Mixer) → (m .«crossfade_active» ≡ true → 2 ≤ m .n) → m .n ≤ length (m .voices) → All Idle (voicesOf m) → monoMix m ≡ pos 0
+unfolding monoMix averaged crossed
+no-mix m h k a = by-active (m .«crossfade_active») refl
+  where
+    idle : (i : ℕ) → i < m .n → sampleOf (voiceAt m i) ≡ G.None
+    idle i l =
+        let e : length (voicesOf m) ≡ m .n = length-take-le (m .n) (m .voices) k in
+        let v : Idle (voiceAt m i) = rw (← getD-take (m .n) (m .voices) i (silentVoice 0) l) (all-get Idle (voicesOf m) i (silentVoice 0) a (omega arith)) in
+        stepped-idle (voiceAt m i) (v .1) .0
+
+    by-active : (b : Bool) → m .«crossfade_active» ≡ b
+        → cond b (crossed (m .«crossfade_t_q8») (sampleOf (voiceAt m 0)) (sampleOf (voiceAt m 1))) (averaged (map sampleOf (voicesOf m))) ≡ pos 0
+    by-active true e = let n = h e in rw (idle 0 (omega arith), idle 1 (omega arith))
+    by-active false e = rw (no-sample (voicesOf m) a .1, no-sample (voicesOf m) a .0)
+
+silent-level : (m : Mixer) → leveled m (pos 0) ≡ pos 0
+silent-level m = rw zero-mul
+
+idle-silent : (m : Mixer) → All Idle (voicesOf m) → Silent m
+idle-silent m a = all-imp Idle Inaudible (λ v i. i .0) (voicesOf m) a
+
+no-side : (side : StereoGiven → ℤ) → side P.None ≡ pos 0 → (l : List Voice) → All Idle l → sideTotal side l ≡ pos 0
+unfolding sideTotal stereoStep
+no-side side z [] a = refl
+no-side side z (v ∷ l) a = rw (stepped-idle v (a .0 .1) .0, z, no-side side z l (a .1))
+
+-- a mono frame of a silent state is 0 and leaves it silent
+pub mono-silent : (m : Mixer) → Valid m → Silent m → (monoFrame m .pcm ≡ pos 0) × Silent (monoFrame m .mixer)
+unfolding monoFrame
+mono-silent m h s =
+    let v = valid-enveloped (valid-advanced h) in
+    let b = enveloped (advanced m) in
+    let a = envelope-silent (advanced m) (advance-silent m h s) in
+    let full : b .n ≤ length (b .voices) = omega (arith, v .few, v .full) in
+    (rw (no-mix b (λ e. v .fade e .0) full a) (silent-level b), rw (same-sampled (sampledCount b) b (sampled-there v) a) (idle-silent b a))
+
+-- and so is a stereo frame
+pub stereo-silent : (m : Mixer) → Valid m → Silent m
+    → (stereoFrame m .left ≡ pos 0) × (stereoFrame m .right ≡ pos 0) × Silent (stereoFrame m .mixer)
+unfolding stereoFrame
+stereo-silent m h s =
+    let b = enveloped (advanced m) in
+    let a = envelope-silent (advanced m) (advance-silent m h s) in (
+      rw (no-side leftOf refl (voicesOf b) a) (silent-level b),
+      rw (no-side rightOf refl (voicesOf b) a) (silent-level b),
+      rw (same-sampled (b .n) b (omega arith) a) (idle-silent b a),
+    )

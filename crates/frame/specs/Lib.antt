@@ -1,0 +1,7 @@
+-- What a reader believes of a frame, from document 01, "Mixing, fade, duty".
+--     Fades     the fade's advance and end
+--     Frames    one mono frame, one stereo frame
+--     Runs      frames one after another
+pub mod Fades
+pub mod Frames
+pub mod Runs

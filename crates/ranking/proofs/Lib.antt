@@ -1,5 +1,5 @@
 -- What an engine cites, and how it is got.
---     Places     what stands at a place of a list: at-place, at-length, and after a store: set-same, set-other
+--     Places     what stands at a place of a list: at-length, and after a store: set-same, set-other
 --     Falling    insertion into falling order; falling-order: the same numbers, each at least as high as all after it
 --     Ranks      the ranks of those of a list that pass a test, in falling order, whatever the list's order
 --     Step       what one voice leaves that is stored where an allocation may store it

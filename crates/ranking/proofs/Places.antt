@@ -8,11 +8,6 @@ use lib.ListN.{length, getD, set, getElem?}
 use Rattle.laws.specs.Lists.{All}
 
 module _ {A : Type 0} where
-  pub at-place : (l : List A) (i : ℕ) (d : A) → i < length l → getElem? l i ≡ some (getD l i d)
-  at-place [] i d h = absurd (omega arith)
-  at-place (x ∷ l) zero d h = refl
-  at-place (x ∷ l) (suc i) d h = at-place l i d (omega arith)
-
   pub at-length : (l : List A) (i : ℕ) (x : A) → getElem? l i ≡ some x → i < length l
   at-length [] i x e = absurd (Option·none-ne-some x e)
   at-length (y ∷ l) zero x e = omega arith

@@ -66,14 +66,17 @@ pub fn play_request(m: Mixer, bytes: &[u8], request: Request) -> Played
     }
 }
 
+// At an engine's rate a tone starts: the other arm is not reached.
 pub fn play_tone(m: Mixer, freq_hz: u32, duration_ms: u16, waveform: Waveform) -> Mixer
     requires { ⌜ Valid m ⌝ }
     ensures { λ r. ⌜ Made Valid (toned m «freq_hz» «duration_ms» waveform) r ⌝ }
 {
     let config = m.config;
     let rate = config.sample_rate_hz;
-    let v = start::tone_voice(freq_hz, duration_ms, waveform, rate);
-    first_sounding(m, v)
+    match start::tone_voice(freq_hz, duration_ms, waveform, rate) {
+        EntryStart::Voice(v) => first_sounding(m, v),
+        EntryStart::Refused(_) => m,
+    }
 }
 
 pub fn play_polyblep(m: Mixer, freq_hz: u32, duration_ms: u16, waveform: PolyBlepWaveform) -> Mixer
@@ -82,6 +85,8 @@ pub fn play_polyblep(m: Mixer, freq_hz: u32, duration_ms: u16, waveform: PolyBle
 {
     let config = m.config;
     let rate = config.sample_rate_hz;
-    let v = start::polyblep_voice(freq_hz, duration_ms, waveform, rate);
-    first_sounding(m, v)
+    match start::polyblep_voice(freq_hz, duration_ms, waveform, rate) {
+        EntryStart::Voice(v) => first_sounding(m, v),
+        EntryStart::Refused(_) => m,
+    }
 }

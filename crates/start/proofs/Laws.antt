@@ -3,6 +3,7 @@ use Prim.Native.Nat.{ℕ, _≤_}
 use mathlib.Core.Path.{_≡_}
 use mathlib.Core.Bool.{true}
 use mathlib.Core.List.{List}
+use borrow.Author.Tests.{le-ltb}
 use Rattle.bank.specs.Banks.{payloadGiven}
 use Rattle.bank.specs.declared.BankSet.{BankSet}
 use Rattle.bank.specs.declared.BankSet.the-variants as B
@@ -25,7 +26,7 @@ use Rattle.voice.proofs.Laws as L
 use Rattle.start.specs.declared.EntryStart.the-variants as S
 use Rattle.start.specs.declared.Request.{Request}
 use Rattle.start.specs.declared.EntryStart.{EntryStart}
-use Rattle.start.specs.Starts.{startedVoice, voiceOf, startAt, startIn, entryStart, foundStart, requestStart}
+use Rattle.start.specs.Starts.{atRate, startedVoice, voiceOf, startAt, startIn, entryStart, foundStart, requestStart}
 
 -- the voice before its envelope is triggered
 pub valid-untriggered : (rate gain priority : ℕ) (source : VoiceSource) (v : Voice) → v ≡ silentVoice rate → rate ≤ 65537 → ValidSource source
@@ -51,6 +52,11 @@ module _ (bank : BankSet) (b : SoundBank) (bytes : List ℕ) (entry : EffectEntr
   pub start-whole : payloadGiven (B.Bank b) bytes (entry .offset) (entry .len) ≡ P.Whole → entryStart bank bytes entry adsr priority ≡ startAt (b .«sample_rate_hz») entry adsr priority
   unfolding entryStart
   start-whole k = rw (h, k)
+
+-- the voice, at a rate that an engine can have
+pub at-rate : (rate : ℕ) (v : Voice) → rate ≤ 65537 → atRate rate v ≡ S.Voice v
+unfolding atRate
+at-rate rate v h = rw (le-ltb 65537 rate h)
 
 -- ---- what is heard: a voice that is given is audible and of the priority asked
 abbrev pub Heard : ℕ → EntryStart → Type 0

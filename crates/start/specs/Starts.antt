@@ -1,6 +1,7 @@
 -- Document 01, "Voices and the rule for handing them out": what a start puts in. Assumes nothing.
 use Prim.Native.Nat.{ℕ, _≤_}
-use mathlib.Core.Bool.{Bool, true, false}
+use mathlib.Core.Bool.{Bool, true, false, cond}
+use lib.Dec.{ltb}
 use mathlib.Core.List.{List}
 use Rattle.bank.specs.Banks.{payloadGiven}
 use Rattle.bank.specs.Search.{foundGiven}
@@ -83,6 +84,10 @@ starts (S.Refused e) = false
 -- lent bytes; with no bank set none is sound."
 unfoldable pub soundRequest : BankSet → List ℕ → Request → Bool
 soundRequest bank bytes r = starts (requestStart bank bytes r)
+
+-- a voice at a rate that an engine can have: "sample rate above 65,537 | 2 BadRate"
+unfoldable pub atRate : ℕ → Voice → EntryStart
+atRate rate v = cond (ltb 65537 rate) (S.Refused E.BadRate) (S.Voice v)
 
 -- "voice 0 becomes a silent voice at the engine's rate with that source and a click envelope, triggered": gain 255 and priority 0 are the
 -- silent voice's

@@ -5,7 +5,7 @@ ghost use Rattle.laws.specs.Made.{Made};
 ghost use Rattle.bank.specs.Banks.{ValidBank};
 ghost use Rattle.voice.specs.Sources.{ValidSource};
 ghost use Rattle.voice.specs.Voices.{Valid};
-ghost use Rattle.start.specs.Starts.{ValidStart, startedVoice, startAt, entryStart, requestStart, toneVoice, polyBlepVoice};
+ghost use Rattle.start.specs.Starts.{ValidStart, startedVoice, startAt, entryStart, requestStart, atRate, toneVoice, polyBlepVoice};
 use bank::BankSet;
 use bank::EffectEntry;
 use bank::EntryRead;
@@ -97,12 +97,14 @@ pub fn start_request(bank: BankSet, bytes: &[u8], request: Request) -> EntryStar
     }
 }
 
-pub fn tone_voice(freq_hz: u32, duration_ms: u16, waveform: Waveform, rate: u32) -> Voice
-    requires { ⌜ rate ≤ 65537 ⌝ }
-    ensures { λ r. ⌜ Made Valid (toneVoice «freq_hz» «duration_ms» waveform rate) r ⌝ }
+pub fn tone_voice(freq_hz: u32, duration_ms: u16, waveform: Waveform, rate: u32) -> EntryStart
+    ensures { λ r. ⌜ Made ValidStart (atRate rate (toneVoice «freq_hz» «duration_ms» waveform rate)) r ⌝ }
 {
+    if rate > 65537 {
+        return EntryStart::Refused(AudioError::BadRate);
+    }
     let source = VoiceSource::start_tone(freq_hz, duration_ms, waveform, rate);
-    started_voice(rate, 255, 0, source, AdsrSpec::click())
+    EntryStart::Voice(started_voice(rate, 255, 0, source, AdsrSpec::click()))
 }
 
 pub fn polyblep_voice(
@@ -110,10 +112,12 @@ pub fn polyblep_voice(
     duration_ms: u16,
     waveform: PolyBlepWaveform,
     rate: u32,
-) -> Voice
-    requires { ⌜ rate ≤ 65537 ⌝ }
-    ensures { λ r. ⌜ Made Valid (polyBlepVoice «freq_hz» «duration_ms» waveform rate) r ⌝ }
+) -> EntryStart
+    ensures { λ r. ⌜ Made ValidStart (atRate rate (polyBlepVoice «freq_hz» «duration_ms» waveform rate)) r ⌝ }
 {
+    if rate > 65537 {
+        return EntryStart::Refused(AudioError::BadRate);
+    }
     let source = VoiceSource::start_polyblep(freq_hz, duration_ms, waveform, rate);
-    started_voice(rate, 255, 0, source, AdsrSpec::click())
+    EntryStart::Voice(started_voice(rate, 255, 0, source, AdsrSpec::click()))
 }

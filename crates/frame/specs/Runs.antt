@@ -1,30 +1,35 @@
 -- Frames one after another. Assumes nothing.
 use Prim.Native.Nat.{ℕ, zero, suc}
-use mathlib.Core.List.{List, [], _∷_}
-use lib.IntN.{ℤ}
 use mathlib.Core.Bool.{Bool, cond}
+use mathlib.Core.List.{List, [], _∷_, _++_}
+use lib.IntN.{ℤ}
 use Rattle.mixer.specs.declared.Mixer.{Mixer}
 use Rattle.frame.specs.Frames.{monoFrame, stereoFrame}
 
--- n mono frames: the samples, and the state after them
-unfoldable pub monoRun : ℕ → Mixer → List ℤ
-monoRun zero m = []
-monoRun (suc n) m = monoFrame m .pcm ∷ monoRun n (monoFrame m .mixer)
+-- n steps, each from the state that the one before left: the state after them, and all that they gave
+module _ {State : Type 0} (step : State → State) where
+  unfoldable pub after : ℕ → State → State
+  after zero s = s
+  after (suc n) s = after n (step s)
 
-unfoldable pub monoAfter : ℕ → Mixer → Mixer
-monoAfter zero m = m
-monoAfter (suc n) m = monoAfter n (monoFrame m .mixer)
+  unfoldable pub given : {A : Type 0} → (State → List A) → ℕ → State → List A
+  given gives zero s = []
+  given gives (suc n) s = gives s ++ given gives n (step s)
 
--- n stereo frames: left and right of each in turn, and the state after them
-unfoldable pub stereoRun : ℕ → Mixer → List ℤ
-stereoRun zero m = []
-stereoRun (suc n) m = stereoFrame m .left ∷ stereoFrame m .right ∷ stereoRun n (stereoFrame m .mixer)
+-- a mono frame gives one sample, a stereo frame left and right
+abbrev pub monoStep : Mixer → Mixer
+monoStep m = monoFrame m .mixer
 
-unfoldable pub stereoAfter : ℕ → Mixer → Mixer
-stereoAfter zero m = m
-stereoAfter (suc n) m = stereoAfter n (stereoFrame m .mixer)
+abbrev pub monoSamples : Mixer → List ℤ
+monoSamples m = monoFrame m .pcm ∷ []
+
+abbrev pub stereoStep : Mixer → Mixer
+stereoStep m = stereoFrame m .mixer
+
+abbrev pub stereoSamples : Mixer → List ℤ
+stereoSamples m = stereoFrame m .left ∷ stereoFrame m .right ∷ []
 
 -- frames of both kinds in any order: true for stereo
 unfoldable pub framesAfter : List Bool → Mixer → Mixer
 framesAfter [] m = m
-framesAfter (k ∷ ks) m = framesAfter ks (cond k (stereoFrame m .mixer) (monoFrame m .mixer))
+framesAfter (k ∷ ks) m = framesAfter ks (cond k (stereoStep m) (monoStep m))

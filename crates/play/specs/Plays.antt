@@ -1,4 +1,4 @@
--- Setting a bank, and the calls that start a voice. Assumes nothing.
+-- Play requests, tone and PolyBLEP starts. Assumes nothing.
 use Prim.Native.Nat.{ℕ}
 use mathlib.Core.Bool.{cond}
 use mathlib.Core.List.{List}

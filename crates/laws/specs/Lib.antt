@@ -2,8 +2,10 @@
 --     Whole    whole numbers as document 01 divides, holds and wraps them: floorDiv, truncDiv, modulo, heldTo, wrap32
 --     F32      binary32: the four operations as ⊕ ⊖ ⊗ ⊘, a literal as a rounded fraction, holding to a range
 --     Lists    what is said of a list's elements: All, mapFirst, only
+--     Runs     one step after another: after, given
 --     Made     Made Valid x r: the value r that a call gives is x, and Valid
 pub mod Whole
 pub mod F32
 pub mod Lists
+pub mod Runs
 pub mod Made

@@ -9,7 +9,7 @@ use lib.Dec.{leb}
 use lib.IntN.{ℤ, pos, natAbs, _+ℤ_, _-ℤ_, _*ℤ_}
 use lib.Signed.{pos-natAbs}
 use Rattle.laws.specs.Whole.{truncDiv}
-use Rattle.laws.proofs.Signed.{pos-sub, sub-neg, neg-mul, neg-quot, abs-neg}
+use Rattle.laws.proofs.Signed.{pos-sub, sub-neg, neg-mul, neg-quot}
 use Rattle.laws.proofs.Held.{Natural}
 use Rattle.envelope.specs.Adsrs.{nextLevel}
 
@@ -20,13 +20,13 @@ part d c n = d * c / n
 abbrev pub stepped : ℕ → ℕ → ℕ → ℕ → ℤ
 stepped l t c n = pos l +ℤ truncDiv ((pos t -ℤ pos l) *ℤ pos c) n
 
-part≤ : (d : ℕ) {c n : ℕ} → c ≤ n → part d c n ≤ d
+pub part≤ : (d : ℕ) {c n : ℕ} → c ≤ n → part d c n ≤ d
 part≤ d {c} {n} h = div-le-of-le-mul n (le-trans (mul-le-mul-left d h) (le-of-eq (mul-comm d n)))
 
-up : {l t : ℕ} (c n : ℕ) → l ≤ t → stepped l t c n ≡ pos (l + part (t - l) c n)
+pub up : {l t : ℕ} (c n : ℕ) → l ≤ t → stepped l t c n ≡ pos (l + part (t - l) c n)
 up {l} {t} c n h = rw (pos-sub t l h)
 
-down : {l t c n : ℕ} → t ≤ l → c ≤ n → stepped l t c n ≡ pos (l - part (l - t) c n)
+pub down : {l t c n : ℕ} → t ≤ l → c ≤ n → stepped l t c n ≡ pos (l - part (l - t) c n)
 down {l} {t} {c} {n} h k =
     let p : part (l - t) c n ≤ l - t = part≤ (l - t) k in
     let q : part (l - t) c n ≤ l = omega arith in
@@ -79,12 +79,3 @@ within l t {c} {n} m a b k = by-side (leb l t) refl
 pub level-is : (l t : ℕ) {c n : ℕ} → c ≤ n → pos (nextLevel l t c n) ≡ stepped l t c n
 unfolding nextLevel
 level-is l t {c} {n} k = pos-natAbs _ (within l t (l + t) (omega arith) (omega arith) k .up)
-
-pub distance : (l t m : ℕ) → l ≤ m → t ≤ m → natAbs (pos t -ℤ pos l) ≤ m
-distance l t m a b = by-side (leb l t) refl
-  where
-    by-side : (s : Bool) → leb l t ≡ s → natAbs (pos t -ℤ pos l) ≤ m
-    by-side true e = rw (pos-sub t l (leb-true l t e)) (omega arith)
-    by-side false e =
-        let h : t ≤ l = omega (arith, leb-false l t e) in
-        rw (sub-neg t l h, abs-neg (pos (l - t))) (omega arith)

@@ -1,11 +1,13 @@
 // The ADSR envelope in Q8: a part of every voice, and an envelope that is opened alone.
 ghost use mathlib.Core.Path.{_≡_};
-ghost use Prim.Native.Nat.{_<_, _≤_};
+ghost use Prim.Native.Nat.{_<_, _≤_, _*_, _/_};
 ghost use Rattle.laws.specs.Made.{Made};
 ghost use Rattle.envelope.specs.Samples.{samplesOf};
 ghost use Rattle.envelope.specs.Adsrs.{Valid, Counting, clickSpec, padSpec, idleAdsr, triggered, released, ticked, beganDecay, sustained, ended, advancedToward, nextLevel, active};
 ghost use Rattle.envelope.specs.Alone.{ValidEnvelope, OpenedAs, triggeredEnvelope, releasedEnvelope, tickedEnvelope};
 use error::AudioError;
+
+mod blocks;
 
 // Durations in milliseconds; 0 skips the phase.
 pub struct AdsrSpec {
@@ -65,14 +67,29 @@ fn ms_to_samples(ms: u16, sample_rate_hz: u32) -> u32
     (ms as u32) * sample_rate_hz / 1000
 }
 
+// Most steps are of no level at all, and those need no division.
+fn part(distance: u8, count: u32, length: u32) -> u8
+    requires { ⌜ (0 < length) × (count ≤ length) × (length ≤ 4294967) ⌝ }
+    ensures { λ r. ⌜ r ≡ distance * count / length ⌝ }
+{
+    let product = (distance as u32) * count;
+    if product < length {
+        0
+    } else {
+        (product / length) as u8
+    }
+}
+
 // The source's `min` and `clamp` never act here: the level goes from where it is towards the target and not past it.
 fn next_level(level: u8, target: u8, count: u32, length: u32) -> u8
     requires { ⌜ (0 < length) × (count ≤ length) × (length ≤ 4294967) ⌝ }
     ensures { λ r. ⌜ r ≡ nextLevel level target count length ⌝ }
 {
-    let start = level as i32;
-    let end = target as i32;
-    (start + (end - start) * (count as i32) / (length as i32)) as u8
+    if level < target {
+        level + part(target - level, count, length)
+    } else {
+        level - part(level - target, count, length)
+    }
 }
 
 impl Adsr {

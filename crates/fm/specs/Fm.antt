@@ -78,11 +78,11 @@ advancedFm v =
     }
 
 -- "the offset, added to the carrier's index modulo 256 .. f being bits 16 to 23 of the unmodulated phase"
+abbrev pub sampleAt : ℕ → ℕ → ℕ → ℤ
+sampleAt carrier modulator depth = tableSample ((indexOf carrier + offsetOf modulator depth) % 256) (fractionOf carrier)
+
 unfoldable pub fmSample : FmVoice → ℤ
-fmSample v =
-    tableSample
-    ((indexOf (v .«carrier_phase») + offsetOf (v .«mod_phase») (v .«mod_depth_q8»)) % 256)
-    (fractionOf (v .«carrier_phase»))
+fmSample v = sampleAt (v .«carrier_phase») (v .«mod_phase») (v .«mod_depth_q8»)
 
 -- a request: none while inactive; "FM never ends"
 unfoldable pub steppedFm : FmVoice → FmStep

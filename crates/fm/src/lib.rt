@@ -1,9 +1,10 @@
 // Two-operator FM: a modulator's sample shifts the carrier's index into the sine table.
 ghost use mathlib.Core.Path.{_≡_};
-ghost use Rattle.fm.specs.Fm.{SineTable, tableSample, modulatorHz, offsetOf, fmSample, silentFm, startedFm, stoppedFm, steppedFm};
+ghost use Rattle.fm.specs.Fm.{SineTable, tableSample, modulatorHz, offsetOf, sampleAt, fmSample, silentFm, startedFm, stoppedFm, steppedFm};
 use fixed::Given;
 use fixed::Phase;
 
+mod blocks;
 mod wavetable;
 
 pub struct FmVoice {
@@ -19,6 +20,12 @@ pub struct FmVoice {
 pub struct FmStep {
     pub voice: FmVoice,
     pub given: Given,
+}
+
+// How many samples a block's requests gave, and the oscillator after them.
+pub struct FmFilled {
+    pub voice: FmVoice,
+    pub given: usize,
 }
 
 // The table between an index and the next, 255 being followed by 0.
@@ -46,6 +53,16 @@ fn mod_offset(table: &[u8; 256], mod_phase: Phase, mod_depth_q8: u8) -> u8
     let index = fixed::phase_index(mod_phase);
     let m = table_sample(table, index, fixed::phase_fraction(mod_phase));
     fixed::as_u8(fixed::apply_gain_q8(m, mod_depth_q8))
+}
+
+// The sample of two phases and a depth.
+fn sample_at(table: &[u8; 256], carrier_phase: Phase, mod_phase: Phase, mod_depth_q8: u8) -> i8
+    requires { ⌜ SineTable (now table) ⌝ }
+    ensures { λ r. ⌜ r ≡ sampleAt «carrier_phase» «mod_phase» «mod_depth_q8» ⌝ }
+{
+    let offset = mod_offset(table, mod_phase, mod_depth_q8);
+    let index = std::num::wrapping_add_u8(fixed::phase_index(carrier_phase), offset);
+    table_sample(table, index, fixed::phase_fraction(carrier_phase))
 }
 
 impl FmVoice {
@@ -102,9 +119,12 @@ impl FmVoice {
         ensures { λ r. ⌜ r ≡ fmSample self ⌝ }
     {
         let table = wavetable::SINE_TABLE;
-        let offset = mod_offset(&table, self.mod_phase, self.mod_depth_q8);
-        let index = std::num::wrapping_add_u8(fixed::phase_index(self.carrier_phase), offset);
-        table_sample(&table, index, fixed::phase_fraction(self.carrier_phase))
+        sample_at(
+            &table,
+            self.carrier_phase,
+            self.mod_phase,
+            self.mod_depth_q8,
+        )
     }
 
     pub fn next_sample(self) -> FmStep

@@ -1,5 +1,6 @@
 -- Laws that callers of these functions cite, and what the proofs here share.
 --     Laws     an oscillator and a voice stay valid, for any number of samples; what a step is
+--     Runs     requests one after another: blep-stops, blep-quiet, blep-rests, blep-silent, valid-after
 --     Turn     the remainder of the sine changes nothing at a phase
 --     Examples document 01's first samples, computed
 --     Ranges   where a float lies, from an order and in the words of the comparisons
@@ -7,6 +8,7 @@
 --     Step     a step lies in 0..0.499; 0 for 0 Hz, 0.499 above 16,777,216 Hz
 --     Cut      a float cut to an i8: its whole part from its bits, and where it is held or 0
 pub mod Laws
+pub mod Runs
 pub mod Turn
 pub mod Examples
 pub mod Ranges

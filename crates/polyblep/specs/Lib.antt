@@ -4,8 +4,10 @@
 --     Sine         the source's approximation of the sine
 --     Waves        the four waveforms at a phase and a step
 --     Oscillators  the oscillator and the voice around it, call by call
+--     Blocks       requests one after another
 pub mod Ranges
 pub mod Blep
 pub mod Sine
 pub mod Waves
 pub mod Oscillators
+pub mod Blocks

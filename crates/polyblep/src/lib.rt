@@ -1,15 +1,18 @@
 // Band-limited oscillator: a binary32 phase, four waveforms with their edges rounded off, every operation in the source's
-// order. corrections.rt has the corrections and the sine, waves.rt the waveforms, cast.rt the cut to eight bits.
+// order. corrections.rt has the corrections and the sine, waves.rt the waveforms, cast.rt the cut to eight bits,
+// blocks.rt a block of samples at once.
 ghost use mathlib.Core.Path.{_≡_};
 ghost use Prim.Native.Nat.{max};
 ghost use Rattle.laws.specs.Made.{Made};
 ghost use Rattle.polyblep.specs.Oscillators.{Valid, Stepped, ValidVoice, FloatStepped, VoiceStepped, stepOf, newOscillator, atFrequency, atRate, withWaveform, atStart, advance, silentVoice, startedVoice, stoppedVoice, carrierOf};
 use fixed::Given;
 
+mod blocks;
 mod cast;
 mod corrections;
 mod waves;
 
+pub use blocks::BlepFilled;
 pub use corrections::poly_blamp;
 pub use corrections::poly_blep;
 

@@ -8,7 +8,7 @@ ghost use lib.Dec.{T};
 ghost use Rattle.polyblep.specs.Ranges.{below};
 ghost use Rattle.polyblep.specs.Waves.{sawtooth, halfTurn, square, triangle, shape, sampleAt};
 
-fn sawtooth_at(t: f32, dt: f32) -> f32
+pub(crate) fn sawtooth_at(t: f32, dt: f32) -> f32
     ensures { λ r. ⌜ r ≡ sawtooth t dt ⌝ }
 {
     let s = 1.0 - 2.0 * t;
@@ -21,7 +21,7 @@ fn half_turn(t: f32) -> f32
     if t >= 0.5 { t - 0.5 } else { t + 0.5 }
 }
 
-fn square_at(t: f32, dt: f32) -> f32
+pub(crate) fn square_at(t: f32, dt: f32) -> f32
     ensures { λ r. ⌜ r ≡ square t dt ⌝ }
 {
     let mut s = if t < 0.5 { 1.0 } else { -1.0 };
@@ -30,7 +30,7 @@ fn square_at(t: f32, dt: f32) -> f32
     s
 }
 
-fn triangle_at(t: f32, dt: f32) -> f32
+pub(crate) fn triangle_at(t: f32, dt: f32) -> f32
     ensures { λ r. ⌜ r ≡ triangle t dt ⌝ }
 {
     let mut s = if t < 0.5 {

@@ -7,6 +7,13 @@ use envelope::AdsrSpec;
 use fixed::Given;
 use fixed::Phase;
 
+mod blocks;
+
+pub use blocks::ToneFilled;
+pub use blocks::block_len;
+pub use blocks::given_of;
+pub use blocks::less;
+
 pub enum Waveform {
     Square,
     Sine,

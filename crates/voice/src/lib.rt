@@ -6,8 +6,10 @@ use envelope::Adsr;
 use envelope::AdsrSpec;
 use fixed::Given;
 
+mod blocks;
 mod source;
 
+pub use blocks::VoiceRun;
 pub use source::Carrier;
 pub use source::SourceStep;
 pub use source::Started;

@@ -11,12 +11,14 @@ use Rattle.laws.proofs.Bools.{never}
 use Rattle.laws.proofs.Lists.{all-set, all-mapFirst, length-mapFirst, drop-mapFirst}
 use Rattle.mixer.specs.Mixers.{Valid, withVoices}
 use Rattle.mixer.specs.declared.Mixer.{Mixer}
+use Rattle.output.specs.Duty.{ValidMapper}
+use Rattle.output.specs.declared.PwmMapper.{PwmMapper}
 use Rattle.mixer.proofs.Laws.{valid-voice}
 use Rattle.voice.specs.Voices as S
 use Rattle.voice.specs.declared.Voice.{Voice}
 use Rattle.voice.proofs.Laws as L
 use Rattle.frame.specs.Fades.{takenOver, voiceAt, fadeEnded, fadeAt, nextT, advanced}
-use Rattle.frame.specs.Frames.{enveloped, sampled, sampledCount, monoFrame, stereoFrame}
+use Rattle.frame.specs.Frames.{enveloped, sampled, sampledCount, monoGiven, withMapper, monoFrame, stereoFrame}
 
 -- the first k voices replaced by what f makes of them
 pub valid-mapped : {m : Mixer} (f : Voice → Voice) → ((v : Voice) → S.Valid v → S.Valid (f v)) → (k : ℕ) → k ≤ m .n → Valid m → Valid (withVoices m (mapFirst f k (m .voices)))
@@ -108,12 +110,28 @@ sampled-there {m} h = by-active (m .«crossfade_active») refl
     by-active true a = h .fade a .0
     by-active false a = omega arith
 
+pub valid-given : {m : Mixer} → Valid m → Valid (monoGiven m .mixer)
+valid-given {m} h = valid-sampled (sampledCount m) (sampled-there h) h
+
 -- both frames
 pub valid-mono : {m : Mixer} → Valid m → Valid (monoFrame m .mixer)
 unfolding monoFrame
-valid-mono {m} h =
-    let b = valid-enveloped (valid-advanced h) in
-    valid-sampled (sampledCount (enveloped (advanced m))) (sampled-there b) b
+valid-mono h = valid-given (valid-enveloped (valid-advanced h))
+
+-- a valid mapper put in
+pub valid-mapper : {m : Mixer} (p : PwmMapper) → ValidMapper p → Valid m → Valid (withMapper m p)
+valid-mapper p v h =
+    record {
+      few = h .few;
+      full = h .full;
+      each = h .each;
+      rest = h .rest;
+      bank = h .bank;
+      rate = h .rate;
+      period = h .period;
+      mapper = v;
+      fade = h .fade;
+    }
 
 pub valid-stereo : {m : Mixer} → Valid m → Valid (stereoFrame m .mixer)
 unfolding stereoFrame

@@ -1,9 +1,11 @@
 -- What callers cite.
 --     Laws     each definition keeps a state valid
---     Runs     frames in two parts are the frames at once
 --     Fades    a fade ends within 255 frames
 --     Silence  what is silent stays silent
+--     Periods  a period of at least 2 is accepted
 pub mod Laws
-pub mod Runs
 pub mod Fades
 pub mod Silence
+pub mod Periods
+mod Amounts
+mod Sums

@@ -1,4 +1,4 @@
--- One mono frame and one stereo frame. Assumes nothing.
+-- One mono frame, its duty, and one stereo frame. Assumes nothing.
 use Prim.Native.Nat.{ℕ, suc}
 use mathlib.Core.Bool.{Bool, cond}
 use mathlib.Core.List.{List, [], _∷_, map}
@@ -10,13 +10,18 @@ use Rattle.fixed.specs.declared.Given.{Given}
 use Rattle.fixed.specs.declared.Given.the-variants as G
 use Rattle.laws.specs.Lists.{mapFirst}
 use Rattle.laws.specs.Whole.{truncDiv}
-use Rattle.mixer.specs.Mixers.{voicesOf, withVoices}
+use Rattle.mixer.specs.Mixers.{Valid, voicesOf, withVoices}
 use Rattle.mixer.specs.declared.Mixer.{Mixer}
+use Rattle.output.specs.Duty.{mapped}
+use Rattle.output.specs.declared.PwmMapper.{PwmMapper}
 use Rattle.voice.specs.Voices.{tickedVoice, steppedVoice, stereoStep}
 use Rattle.voice.specs.declared.StereoGiven.{StereoGiven}
 use Rattle.voice.specs.declared.StereoGiven.the-variants as P
 use Rattle.voice.specs.declared.Voice.{Voice}
 use Rattle.frame.specs.Fades.{advanced, voiceAt}
+use Rattle.frame.specs.declared.MonoFrame.{MonoFrame}
+use Rattle.frame.specs.declared.StereoFrame.{StereoFrame}
+use Rattle.frame.specs.declared.DutyFrame.{DutyFrame}
 
 -- "tick all envelopes (a voice then inaudible gets the idle source)"
 unfoldable pub enveloped : Mixer → Mixer
@@ -31,6 +36,15 @@ abbrev pub leveled : Mixer → ℤ → ℤ
 leveled m sum = gained (limited sum) (m .config .«master_gain_q8»)
 
 -- ---- mono
+
+-- what an answer adds to the sum, and to the number of samples
+abbrev pub amount : Given → ℤ
+amount (G.Sample s) = s
+amount G.None = pos 0
+
+abbrev pub counted : Given → ℕ
+counted (G.Sample s) = 1
+counted G.None = 0
 
 -- the sum of the samples given, and how many were
 unfoldable pub total : List Given → ℤ
@@ -67,15 +81,44 @@ monoMix m =
     (crossed (m .«crossfade_t_q8») (sampleOf (voiceAt m 0)) (sampleOf (voiceAt m 1)))
     (averaged (map sampleOf (voicesOf m)))
 
-pub record MonoFrame : Type 0 where
-  pub mixer : Mixer
-  pub pcm : ℤ
+-- "take samples, limit, apply master gain"
+abbrev pub monoGiven : Mixer → MonoFrame
+monoGiven m = record { mixer = sampled (sampledCount m) m; pcm = leveled m (monoMix m) }
 
 -- "Every mono frame: advance the fade, tick all envelopes .., take samples, limit, apply master gain."
 unfoldable pub monoFrame : Mixer → MonoFrame
-monoFrame m =
-    let b = enveloped (advanced m) in
-    record { mixer = sampled (sampledCount b) b; pcm = leveled b (monoMix b) }
+monoFrame m = monoGiven (enveloped (advanced m))
+
+-- m with another mapper
+abbrev pub withMapper : Mixer → PwmMapper → Mixer
+withMapper m mapper =
+    record {
+      n = m .n;
+      voices = m .voices;
+      bank = m .bank;
+      config = m .config;
+      mapper = mapper;
+      «crossfade_t_q8» = m .«crossfade_t_q8»;
+      «crossfade_step_q8» = m .«crossfade_step_q8»;
+      «crossfade_active» = m .«crossfade_active»;
+      «stealing_policy» = m .«stealing_policy»;
+    }
+
+-- the duty of a mono frame's sample: the mapper takes it
+unfoldable pub dutyFrame : Mixer → DutyFrame
+dutyFrame m =
+    let f = monoFrame m in
+    let d = mapped (f .mixer .mapper) (f .pcm) (f .mixer .config .«pwm_period») in
+    record { mixer = withMapper (f .mixer) (d .mapper); duty = d .duty }
+
+abbrev pub ValidMono : MonoFrame → Type 0
+ValidMono f = Valid (f .mixer)
+
+abbrev pub ValidDuty : DutyFrame → Type 0
+ValidDuty f = Valid (f .mixer)
+
+abbrev pub ValidStereo : StereoFrame → Type 0
+ValidStereo f = Valid (f .mixer)
 
 -- ---- stereo
 
@@ -91,11 +134,6 @@ rightOf P.None = pos 0
 unfoldable pub sideTotal : (StereoGiven → ℤ) → List Voice → ℤ
 sideTotal side [] = pos 0
 sideTotal side (v ∷ vs) = side (stereoStep v .given) +ℤ sideTotal side vs
-
-pub record StereoFrame : Type 0 where
-  pub mixer : Mixer
-  pub left : ℤ
-  pub right : ℤ
 
 -- "Stereo goes through the same steps but ignores t and sums all voices undivided, after pan; each side is limited, given master gain"
 unfoldable pub stereoFrame : Mixer → StereoFrame

@@ -1,0 +1,18 @@
+-- A period of at least 2 is accepted. Assumes nothing.
+use Prim.Native.Nat.{ℕ, _≤_}
+use native.Mathlib.Omega.{arith}
+use borrow.Author.Tests.{le-ltb}
+use mathlib.Core.Path.{_≡_}
+use Rattle.error.specs.declared.AudioError.{AudioError}
+use Rattle.output.specs.Duty.{periodRead}
+use Rattle.output.specs.declared.Period.{Period}
+use Rattle.output.specs.declared.PeriodRead.the-variants as R
+
+pub accepted : (n : ℕ) → 2 ≤ n → periodRead n ≡ R.Accepted (record { counts = n })
+accepted n h = rw (le-ltb n 2 h)
+
+pub period-is : (p q : Period) → R.Accepted p ≡ R.Accepted q → p ≡ q
+period-is p q e = cc
+
+pub not-refused : {X : Type 0} (p : Period) (e : AudioError) → R.Accepted p ≡ R.Refused e → X
+not-refused p e h = let z : _≡_ {A = ℕ} 0 1 = cc in absurd (omega arith)

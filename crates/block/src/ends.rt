@@ -1,0 +1,88 @@
+// How far a fade goes in a block, and its end.
+ghost use mathlib.Core.Path.{_≡_};
+ghost use mathlib.Core.Bool.{true};
+ghost use Prim.Native.Nat.{_+_, _*_, _≤_, _<_};
+ghost use Rattle.laws.specs.Made.{Made};
+ghost use Rattle.frame.specs.Fades.{takenOver, fadeEnded};
+ghost use Rattle.mixer.specs.Mixers.{Valid};
+ghost use Rattle.voice.specs.Voices as S;
+ghost use Rattle.block.specs.Blocks.{FadeFrames, Slow, movedOn, restedOthers};
+use mixer::Mixer;
+use voice::Voice;
+
+// How many of len frames the fade goes on after: it ends in the frame that takes t to 255.
+pub fn fade_frames(t: u8, step: u8, len: usize) -> usize
+    requires { ⌜ 1 ≤ step ⌝ }
+    ensures { λ r. ⌜ FadeFrames t step len r ⌝ }
+{
+    if t == 255 {
+        return 0;
+    }
+    let most = ((254 - t) / step) as usize;
+    if most < len { most } else { len }
+}
+
+fn taken_over(old: Voice, new: Voice) -> Voice
+    requires { ⌜ S.Valid old ⌝ }
+    ensures { λ r. ⌜ r ≡ takenOver old new ⌝ }
+{
+    let stopped = old.stop_immediate();
+    let source = new.source;
+    Voice {
+        source,
+        gain_q8: new.gain_q8,
+        priority: new.priority,
+        pan_q8: new.pan_q8,
+        ..stopped
+    }
+}
+
+// The frame in which the fade ends begins so.
+pub fn ended(m: Mixer) -> Mixer
+    requires { ⌜ Valid m × (m .«crossfade_active» ≡ true) ⌝ }
+    ensures { λ r. ⌜ Made Valid (fadeEnded m) r ⌝ }
+{
+    let mut out = Mixer {
+        crossfade_t_q8: 0,
+        crossfade_active: false,
+        ..m
+    };
+    let a = m.voices[0];
+    let b = m.voices[1];
+    let first = taken_over(a, b);
+    out.voices[0] = first;
+    let second = b.stop_immediate();
+    out.voices[1] = second;
+    out
+}
+
+// t after len frames of a fade that goes on after them; outside a fade it stays.
+pub fn moved(m: Mixer, len: usize) -> Mixer
+    requires { ⌜ Slow m len × (m .«crossfade_active» ≡ true → 1 ≤ m .«crossfade_step_q8») ⌝ }
+    ensures { λ r. ⌜ r ≡ movedOn m len ⌝ }
+{
+    if m.crossfade_active {
+        if 0 < len {
+            let t = m.crossfade_t_q8 + (len as u8) * m.crossfade_step_q8;
+            return Mixer {
+                crossfade_t_q8: t,
+                ..m
+            };
+        }
+    }
+    m
+}
+
+// Every voice but 0 and 1 ticks on, with no sample asked for.
+pub fn rested(m: Mixer, len: usize) -> Mixer
+    requires { ⌜ Valid m × (2 ≤ m .n) × (len ≤ 256) ⌝ }
+    ensures { λ r. ⌜ r ≡ restedOthers m len ⌝ }
+{
+    let n = m.n;
+    let mut out = m;
+    for i in 2..n {
+        let v = out.voices[i];
+        out.voices[i] = v.rest(len);
+    }
+    out
+}

@@ -1,0 +1,153 @@
+// Up to 256 frames at once, voice by voice: each voice runs over the block, and passes over its cells add up, mix and level.
+ghost use mathlib.Core.Path.{_≡_};
+ghost use mathlib.Core.Bool.{true, false};
+ghost use Prim.Native.Nat.{_+_, _≤_, min};
+ghost use lib.ListN.{length};
+ghost use Rattle.mixer.specs.Mixers.{Valid};
+ghost use Rattle.block.specs.Blocks.{MonoPart, StereoPart, MonoBlock, StereoBlock, Slow};
+use mixer::Mixer;
+
+mod ends;
+mod passes;
+
+// Lent as a slice, a buffer tells the proof its length, which its type fixes.
+fn whole(cells: &[i8]) {}
+
+// len frames outside a fade, written from `at` on.
+fn plain(m: Mixer, at: usize, len: usize, out: &mut [i8; 256]) -> Mixer
+    requires { ⌜ Valid m × (m .«crossfade_active» ≡ false) × (at + len ≤ 256) × (length (now out) ≡ 256) ⌝ }
+    ensures { λ r. ⌜ MonoPart m at len (now (out .entry)) r (now (out .exit)) ⌝ }
+{
+    let n = m.n;
+    let mut mixed = m;
+    let mut samples = [0i8; 256];
+    let mut sums = [0i16; 256];
+    let mut counts = [0u8; 256];
+    for i in 0..n {
+        let v = mixed.voices[i];
+        let r = v.run(len, &mut samples);
+        let w = r.voice;
+        mixed.voices[i] = w;
+        let given = r.given;
+        passes::add(&samples, 256, given, &mut sums);
+        passes::tally(given, &mut counts);
+    }
+    let config = m.config;
+    passes::write_means(&sums, &counts, config.master_gain_q8, at, len, out);
+    mixed
+}
+
+// len frames of a fade that goes on after them.
+fn fading(m: Mixer, len: usize, out: &mut [i8; 256]) -> Mixer
+    requires { ⌜ Valid m × (m .«crossfade_active» ≡ true) × (len ≤ 256) × (length (now out) ≡ 256) × Slow m len ⌝ }
+    ensures { λ r. ⌜ MonoPart m 0 len (now (out .entry)) r (now (out .exit)) ⌝ }
+{
+    let mut mixed = ends::rested(m, len);
+    let mut first = [0i8; 256];
+    let mut second = [0i8; 256];
+    let a = m.voices[0];
+    let ra = a.run(len, &mut first);
+    let b = m.voices[1];
+    let rb = b.run(len, &mut second);
+    let wa = ra.voice;
+    let wb = rb.voice;
+    mixed.voices[0] = wa;
+    mixed.voices[1] = wb;
+    let config = m.config;
+    let na = ra.given;
+    let nb = rb.given;
+    passes::write_faded(
+        &first,
+        na,
+        &second,
+        nb,
+        m.crossfade_t_q8,
+        m.crossfade_step_q8,
+        config.master_gain_q8,
+        len,
+        out,
+    );
+    ends::moved(mixed, len)
+}
+
+// len frames in stereo, in which a fade shows only by its end, written from `at` on.
+fn panned(m: Mixer, at: usize, len: usize, left: &mut [i8; 256], right: &mut [i8; 256]) -> Mixer
+    requires { ⌜ Valid m × (at + len ≤ 256) × (length (now left) ≡ 256) × (length (now right) ≡ 256) × Slow m len ⌝ }
+    ensures { λ r. ⌜ StereoPart m at len (now (left .entry)) (now (right .entry)) r (now (left .exit)) (now (right .exit)) ⌝ }
+{
+    let n = m.n;
+    let mut mixed = m;
+    let mut samples = [0i8; 256];
+    let mut lefts = [0i16; 256];
+    let mut rights = [0i16; 256];
+    let counts = [0u8; 256];
+    for i in 0..n {
+        let v = mixed.voices[i];
+        let r = v.run(len, &mut samples);
+        let w = r.voice;
+        mixed.voices[i] = w;
+        let given = r.given;
+        let g = fixed::pan_to_gains_q8(v.pan_q8);
+        passes::add(&samples, g.left as u16, given, &mut lefts);
+        passes::add(&samples, g.right as u16, given, &mut rights);
+    }
+    let config = m.config;
+    passes::write_means(&lefts, &counts, config.master_gain_q8, at, len, left);
+    passes::write_means(&rights, &counts, config.master_gain_q8, at, len, right);
+    ends::moved(mixed, len)
+}
+
+// n mono frames from within a fade, and over its end.
+fn mono_fade(m: Mixer, n: usize, out: &mut [i8; 256]) -> Mixer
+    requires { ⌜ Valid m × (m .«crossfade_active» ≡ true) × (n ≤ 256) × (length (now out) ≡ 256) ⌝ }
+    ensures { λ r. ⌜ MonoPart m 0 n (now (out .entry)) r (now (out .exit)) ⌝ }
+{
+    let f = ends::fade_frames(m.crossfade_t_q8, m.crossfade_step_q8, n);
+    let a = fading(m, f, out);
+    if f < n {
+        let b = ends::ended(a);
+        return plain(b, f, n - f, out);
+    }
+    a
+}
+
+// n stereo frames from within a fade, and over its end.
+fn stereo_fade(m: Mixer, n: usize, left: &mut [i8; 256], right: &mut [i8; 256]) -> Mixer
+    requires { ⌜ Valid m × (m .«crossfade_active» ≡ true) × (n ≤ 256) × (length (now left) ≡ 256) × (length (now right) ≡ 256) ⌝ }
+    ensures { λ r. ⌜ StereoPart m 0 n (now (left .entry)) (now (right .entry)) r (now (left .exit)) (now (right .exit)) ⌝ }
+{
+    let f = ends::fade_frames(m.crossfade_t_q8, m.crossfade_step_q8, n);
+    let a = panned(m, 0, f, left, right);
+    if f < n {
+        let b = ends::ended(a);
+        return panned(b, f, n - f, left, right);
+    }
+    a
+}
+
+// len mono frames, 256 at most: `out` takes their samples from the front on.
+pub fn mono_block(m: Mixer, len: usize, out: &mut [i8; 256]) -> Mixer
+    requires { ⌜ Valid m ⌝ }
+    ensures { λ r. ⌜ MonoBlock m (min len 256) (now (out .entry)) r (now (out .exit)) ⌝ }
+{
+    whole(&*out);
+    let n = tone::block_len(len);
+    if m.crossfade_active {
+        return mono_fade(m, n, out);
+    }
+    plain(m, 0, n, out)
+}
+
+// len stereo frames, 256 at most: `left` and `right` take their samples from the front on.
+pub fn stereo_block(m: Mixer, len: usize, left: &mut [i8; 256], right: &mut [i8; 256]) -> Mixer
+    requires { ⌜ Valid m ⌝ }
+    ensures { λ r. ⌜ StereoBlock m (min len 256) (now (left .entry)) (now (right .entry)) r (now (left .exit)) (now (right .exit)) ⌝ }
+{
+    whole(&*left);
+    whole(&*right);
+    let n = tone::block_len(len);
+    if m.crossfade_active {
+        return stereo_fade(m, n, left, right);
+    }
+    panned(m, 0, n, left, right)
+}

@@ -1,0 +1,128 @@
+-- The mapper takes no part in a mono frame, so duties are the mapper over the frames' samples. Assumes nothing.
+use Prim.Native.Nat.{ℕ, zero, suc}
+use mathlib.Core.Path.{_≡_, refl, sym, _∙_, ap}
+use mathlib.Core.Bool.{Bool, true, false, cond}
+use mathlib.Core.List.{List, [], _∷_}
+use lib.Dec.{eqb}
+use lib.IntN.{ℤ}
+use Rattle.laws.specs.Runs.{after, given}
+use Rattle.config.specs.declared.AudioConfig.{AudioConfig}
+use Rattle.mixer.specs.declared.Mixer.{Mixer}
+use Rattle.output.specs.Duty.{mapped}
+use Rattle.output.specs.declared.PwmMapper.{PwmMapper}
+use Rattle.frame.specs.Fades.{fadeEnded, fadeAt, nextT, advanced}
+use Rattle.frame.specs.Frames.{enveloped, sampled, monoMix, withMapper, monoGiven, monoFrame, dutyFrame}
+use Rattle.frame.specs.Runs.{monoStep, dutyStep, duties}
+use Rattle.frame.specs.declared.MonoFrame.{MonoFrame}
+use Rattle.buffers.specs.Buffers.{mappedOver, dutiesOver}
+use Rattle.buffers.proofs.Fill.{pcm, row}
+
+-- ---- a mono frame with another mapper
+abbrev mapperIn : MonoFrame → PwmMapper → MonoFrame
+mapperIn f p = record { mixer = withMapper (f .mixer) p; pcm = f .pcm }
+
+advance-mapper : (m : Mixer) (p : PwmMapper) → advanced (withMapper m p) ≡ withMapper (advanced m) p
+unfolding advanced fadeEnded fadeAt
+advance-mapper m p = by-active (m .«crossfade_active»)
+  where
+    by-end : (e : Bool) → cond e (fadeEnded (withMapper m p)) (fadeAt (withMapper m p) (nextT m)) ≡ withMapper (cond e (fadeEnded m) (fadeAt m (nextT m))) p
+    by-end true = refl
+    by-end false = refl
+
+    by-active : (a : Bool) → cond a (cond (eqb (nextT m) 255) (fadeEnded (withMapper m p)) (fadeAt (withMapper m p) (nextT m))) (withMapper m p)
+        ≡ withMapper (cond a (cond (eqb (nextT m) 255) (fadeEnded m) (fadeAt m (nextT m))) m) p
+    by-active true = by-end (eqb (nextT m) 255)
+    by-active false = refl
+
+given-mapper : (m : Mixer) (p : PwmMapper) → monoGiven (enveloped (withMapper m p)) ≡ mapperIn (monoGiven (enveloped m)) p
+unfolding enveloped sampled monoMix
+given-mapper m p = refl
+
+mono-mapper : (m : Mixer) (p : PwmMapper) → monoFrame (withMapper m p) ≡ mapperIn (monoFrame m) p
+unfolding monoFrame
+mono-mapper m p = rw (advance-mapper m p) (given-mapper (advanced m) p)
+
+-- it keeps mapper and configuration
+advance-keeps : (m : Mixer) → (advanced m .mapper ≡ m .mapper) × (advanced m .config ≡ m .config)
+unfolding advanced fadeEnded fadeAt
+advance-keeps m = by-active (m .«crossfade_active»)
+  where
+    by-end : (e : Bool) → (cond e (fadeEnded m) (fadeAt m (nextT m)) .mapper ≡ m .mapper) × (cond e (fadeEnded m) (fadeAt m (nextT m)) .config ≡ m .config)
+    by-end true = (refl, refl)
+    by-end false = (refl, refl)
+
+    by-active : (a : Bool) → let b = cond a (cond (eqb (nextT m) 255) (fadeEnded m) (fadeAt m (nextT m))) m in (b .mapper ≡ m .mapper) × (b .config ≡ m .config)
+    by-active true = by-end (eqb (nextT m) 255)
+    by-active false = (refl, refl)
+
+mono-keeps : (m : Mixer) → (monoStep m .mapper ≡ m .mapper) × (monoStep m .config ≡ m .config)
+unfolding monoFrame enveloped sampled
+mono-keeps m = advance-keeps m
+
+-- ---- and frame after frame
+pub run-keeps : (n : ℕ) (m : Mixer) → (after monoStep n m .mapper ≡ m .mapper) × (after monoStep n m .config ≡ m .config)
+unfolding after
+run-keeps zero m = (refl, refl)
+run-keeps (suc n) m =
+    let h = run-keeps n (monoStep m) in
+    let k = mono-keeps m in
+    (h .0 ∙ k .0, h .1 ∙ k .1)
+
+step-mapper : (m : Mixer) (p : PwmMapper) → monoStep (withMapper m p) ≡ withMapper (monoStep m) p
+step-mapper m p = ap (λ (f : MonoFrame). f .mixer) (mono-mapper m p)
+
+after-mapper : (n : ℕ) (m : Mixer) (p : PwmMapper) → after monoStep n (withMapper m p) ≡ withMapper (after monoStep n m) p
+unfolding after
+after-mapper zero m p = refl
+after-mapper (suc n) m p = ap (after monoStep n) (step-mapper m p) ∙ after-mapper n (monoStep m) p
+
+row-mapper : (n : ℕ) (m : Mixer) (p : PwmMapper) → row monoStep pcm n (withMapper m p) ≡ row monoStep pcm n m
+unfolding given
+row-mapper zero m p = refl
+row-mapper (suc n) m p =
+    ap (λ (s : ℤ). s ∷ row monoStep pcm n (monoStep (withMapper m p))) (ap (λ (f : MonoFrame). f .pcm) (mono-mapper m p))
+    ∙ ap (λ (l : List ℤ). pcm m ∷ l) (ap (row monoStep pcm n) (step-mapper m p) ∙ row-mapper n (monoStep m) p)
+
+abbrev period : Mixer → ℕ
+period m = m .config .«pwm_period»
+
+-- the mapper after the first sample, under a mapper and a configuration
+abbrev next : Mixer → PwmMapper → AudioConfig → PwmMapper
+next m p c = mapped p (pcm m) (c .«pwm_period») .mapper
+
+duty-step : (m : Mixer) → dutyStep m ≡ withMapper (monoStep m) (next m (monoStep m .mapper) (monoStep m .config))
+unfolding dutyFrame
+duty-step m = refl
+
+pub duty-after : (n : ℕ) (m : Mixer) → after dutyStep n m ≡ withMapper (after monoStep n m) (mappedOver (period m) (m .mapper) (row monoStep pcm n m))
+unfolding after given mappedOver
+duty-after zero m = refl
+duty-after (suc n) m =
+    let k = mono-keeps m in
+    let x = monoStep m in
+    let q = next m (x .mapper) (x .config) in
+    ap (after dutyStep n) (duty-step m)
+    ∙ duty-after n (withMapper x q)
+    ∙ ap (λ (y : Mixer). withMapper y (mappedOver (period x) q (row monoStep pcm n (withMapper x q)))) (after-mapper n x q)
+    ∙ ap (λ (l : List ℤ). withMapper (after monoStep n x) (mappedOver (period x) q l)) (row-mapper n x q)
+    ∙ ap (λ (a : PwmMapper). withMapper (after monoStep n x) (mappedOver (period x) (next m a (x .config)) (row monoStep pcm n x))) (k .0)
+    ∙ ap (λ (c : AudioConfig). withMapper (after monoStep n x) (mappedOver (c .«pwm_period») (next m (m .mapper) c) (row monoStep pcm n x))) (k .1)
+
+first-duty : (m : Mixer) → dutyFrame m .duty ≡ mapped (monoStep m .mapper) (pcm m) (period (monoStep m)) .duty
+unfolding dutyFrame
+first-duty m = refl
+
+pub duty-given : (n : ℕ) (m : Mixer) → given dutyStep duties n m ≡ dutiesOver (period m) (m .mapper) (row monoStep pcm n m)
+unfolding given dutiesOver
+duty-given zero m = refl
+duty-given (suc n) m =
+    let k = mono-keeps m in
+    let x = monoStep m in
+    let q = next m (x .mapper) (x .config) in
+    ap (λ (d : ℕ). d ∷ given dutyStep duties n (dutyStep m)) (first-duty m)
+    ∙ ap (λ (l : List ℕ). mapped (x .mapper) (pcm m) (period x) .duty ∷ l)
+    (ap (given dutyStep duties n) (duty-step m)
+    ∙ duty-given n (withMapper x q)
+    ∙ ap (dutiesOver (period x) q) (row-mapper n x q))
+    ∙ ap (λ (a : PwmMapper). mapped a (pcm m) (period x) .duty ∷ dutiesOver (period x) (next m a (x .config)) (row monoStep pcm n x)) (k .0)
+    ∙ ap (λ (c : AudioConfig). mapped (m .mapper) (pcm m) (c .«pwm_period») .duty ∷ dutiesOver (c .«pwm_period») (next m (m .mapper) c) (row monoStep pcm n x)) (k .1)

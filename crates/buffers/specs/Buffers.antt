@@ -1,0 +1,79 @@
+-- Buffers that frames fill. Assumes nothing.
+use Prim.Native.Nat.{ℕ, _*_, _/_}
+use mathlib.Core.Path.{_≡_}
+use mathlib.Core.List.{List, [], _∷_, _++_}
+use lib.IntN.{ℤ, pos, _*ℤ_}
+use lib.ListN.{length, drop}
+use Rattle.frame.specs.Frames.{monoFrame, stereoFrame}
+use Rattle.laws.specs.Made.{Made}
+use Rattle.laws.specs.Runs.{after, given}
+use Rattle.mixer.specs.Mixers.{Valid}
+use Rattle.mixer.specs.declared.Mixer.{Mixer}
+use Rattle.output.specs.Duty.{mapped}
+use Rattle.output.specs.Levels.{raised}
+use Rattle.output.specs.declared.PwmMapper.{PwmMapper}
+use Rattle.buffers.specs.declared.Filled.{Filled}
+
+module _ {A : Type 0} (step : Mixer → Mixer) (gives : Mixer → List A) where
+  -- so many frames, the cells that they gave from the front on, the cells after them as they were; "a filled length counts the
+  -- cells written"
+  pub record Fills (frames written : ℕ) (m : Mixer) (cells : List A) (r : Filled) (filled : List A) : Type 0 where
+    pub mixer : Made Valid (after step frames m) (r .mixer)
+    pub count : r .filled ≡ written
+    pub content : filled ≡ given step gives frames m ++ drop written cells
+
+  -- a frame for each cell
+  abbrev pub FillsAll : Mixer → List A → Filled → List A → Type 0
+  FillsAll m cells r filled = Fills (length cells) (length cells) m cells r filled
+
+  -- a frame for each pair; "An odd last stereo cell is not written"
+  abbrev pub FillsPairs : Mixer → List A → Filled → List A → Type 0
+  FillsPairs m cells r filled = Fills (length cells / 2) (length cells / 2 * 2) m cells r filled
+
+-- ---- what a frame gives to a buffer, by the scale of its cells
+
+-- the sample itself, "written × 256", and the source's 32-bit scale
+abbrev pub toI8 : ℤ → ℤ
+toI8 s = s
+
+abbrev pub toI16 : ℤ → ℤ
+toI16 s = s *ℤ pos 256
+
+abbrev pub toI32 : ℤ → ℤ
+toI32 s = s *ℤ pos 0x100_0000
+
+-- the source's scales without a sign
+abbrev pub toU12 : ℤ → ℕ
+toU12 s = raised s * 4095 / 255
+
+abbrev pub toU16 : ℤ → ℕ
+toU16 s = raised s * 256
+
+module _ {A : Type 0} (scale : ℤ → A) where
+  -- the mono sample once, or on both sides
+  abbrev pub once : Mixer → List A
+  once m = scale (monoFrame m .pcm) ∷ []
+
+  abbrev pub doubled : Mixer → List A
+  doubled m = let s = scale (monoFrame m .pcm) in s ∷ s ∷ []
+
+  -- left and right
+  abbrev pub sides : Mixer → List A
+  sides m = scale (stereoFrame m .left) ∷ scale (stereoFrame m .right) ∷ []
+
+-- ---- a block's samples as cells
+
+-- left before right, each scaled
+unfoldable pub pairs : {A : Type 0} → (ℤ → A) → List ℤ → List ℤ → List A
+pairs scale [] rs = []
+pairs scale (l ∷ ls) [] = []
+pairs scale (l ∷ ls) (r ∷ rs) = scale l ∷ scale r ∷ pairs scale ls rs
+
+-- a mapper over samples, one after another: the mapper after them, and their duties
+unfoldable pub mappedOver : ℕ → PwmMapper → List ℤ → PwmMapper
+mappedOver period p [] = p
+mappedOver period p (s ∷ l) = mappedOver period (mapped p s period .mapper) l
+
+unfoldable pub dutiesOver : ℕ → PwmMapper → List ℤ → List ℕ
+dutiesOver period p [] = []
+dutiesOver period p (s ∷ l) = let d = mapped p s period in d .duty ∷ dutiesOver period (d .mapper) l

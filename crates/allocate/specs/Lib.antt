@@ -1,3 +1,5 @@
 -- What a reader believes of the allocation, from document 01.
 --     Allocation    which voice a request gets
+--     Ranked        the same by a rank for each voice
 pub mod Allocation
+pub mod Ranked

@@ -10,6 +10,8 @@ use mixer::Mixer;
 use mixer::VoiceStealingPolicy;
 use voice::Voice;
 
+pub mod ranks;
+
 pub enum Allocated {
     Voice(usize),
     None,

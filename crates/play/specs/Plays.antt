@@ -18,6 +18,7 @@ use Rattle.start.specs.declared.EntryStart.the-variants as S
 use Rattle.start.specs.declared.Request.{Request}
 use Rattle.tone.specs.declared.Waveform.{Waveform}
 use Rattle.voice.specs.Voices.{silentVoice}
+use Rattle.voice.specs.Voices as W
 use Rattle.voice.specs.declared.Voice.{Voice}
 use Rattle.mixer.specs.Mixers.{Valid, withVoices}
 use Rattle.allocate.specs.Allocation.{allocated}
@@ -28,6 +29,8 @@ use Rattle.allocate.specs.declared.Allocated.{Allocated}
 use Rattle.allocate.specs.declared.Allocated.the-variants as A
 use Rattle.play.specs.declared.Played.{Played}
 use Rattle.play.specs.declared.PlayOutcome.the-variants as P
+use Rattle.play.specs.declared.places.Placed.{Placed}
+use Rattle.play.specs.declared.places.Placed.the-variants as L
 
 abbrev pub ValidPlayed : Played → Type 0
 ValidPlayed p = Valid (p .mixer)
@@ -44,6 +47,16 @@ playedBy m (A.Voice i) (S.Voice v) = record { outcome = P.Voice i; mixer = withV
 
 unfoldable pub played : Mixer → List ℕ → Request → Played
 played m bytes r = playedBy m (allocated m (r .priority)) (requestStart (m .bank) bytes r)
+
+abbrev pub ValidPlaced : Placed → Type 0
+ValidPlaced (L.Voice i v) = W.Valid v
+ValidPlaced (L.Refused e) = Unit {0}
+
+-- the place and the voice that a request gets
+abbrev pub placedBy : Allocated → EntryStart → Placed
+placedBy A.None start = L.Refused E.VoiceBusy
+placedBy (A.Voice i) (S.Refused e) = L.Refused e
+placedBy (A.Voice i) (S.Voice v) = L.Voice i v
 
 -- "with N = 0 they do nothing, else voice 0 becomes" v
 unfoldable pub firstSounding : Mixer → Voice → Mixer

@@ -14,6 +14,7 @@ use tone::Waveform;
 use voice::Voice;
 
 pub mod fades;
+pub mod places;
 
 // The voice that a request got, or why it got none.
 pub enum PlayOutcome {

@@ -6,6 +6,7 @@
 --     Demand     demand 3 for every box whose allocation is lawful: demand
 --     Rule       document 01's rule is lawful: lowest-allowed
 --     Scans      the rule as loops compute it: free-scan, lowest-scan, with a loop's turns and its end
+--     Ranked     the rule as one search, by a rank for each voice: ranked-free, ranked-lowest, lowest-mapped
 pub mod Places
 pub mod Falling
 pub mod Ranks
@@ -13,3 +14,4 @@ pub mod Step
 pub mod Demand
 pub mod Rule
 pub mod Scans
+pub mod Ranked

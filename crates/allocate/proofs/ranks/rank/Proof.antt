@@ -1,0 +1,15 @@
+-- `allocate::ranks::rank` meets its contract. Assumes nothing.
+use mathlib.Core.Path.{sym, _∙_}
+use borrow.Author.Needs.{needs}
+use native.Mathlib.Numerals.{add-one}
+use Rattle.allocate.proofs.ranks.rank.Statement.{statement}
+use Rattle.allocate.proofs.ranks.rank.Tie as tie
+
+returns : tie.Need-returns
+returns c = rw (sym (c .before .before .is-audible .ensures) ∙ c .before .if1 .taken, add-one)
+
+returns-2 : tie.Need-returns-2
+returns-2 c = rw (sym (c .before .is-audible .ensures) ∙ c .if1 .left)
+
+pub rank-spec : {M : Type 1} → statement M
+rank-spec = tie.close (tie.spec (λ c κs. search needs) (λ c. search needs) (λ c. search needs) returns returns-2)

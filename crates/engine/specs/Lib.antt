@@ -1,5 +1,9 @@
 -- What a reader believes of the engine, from document 01.
 --     Engines    the box around the mixer's state
+--     Ticks      the calls of one frame
+--     Fills      the buffer calls
 --     Requests   demand 3: a list of play requests
 pub mod Engines
+pub mod Ticks
+pub mod Fills
 pub mod Requests

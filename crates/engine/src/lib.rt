@@ -24,7 +24,9 @@ use polyblep::PolyBlepWaveform;
 use start::Request;
 use tone::Waveform;
 
+pub mod fills;
 mod requests;
+pub mod ticks;
 
 pub struct AudioEngine {
     state: Mixer,

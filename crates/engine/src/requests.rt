@@ -5,7 +5,11 @@ ghost use lib.ListN.{length};
 ghost use Rattle.engine.specs.Engines.{ValidEngine};
 ghost use Rattle.engine.specs.Requests.{wideAt, requestAt, PlaysAll};
 use crate::AudioEngine;
+use allocate::ranks::rank;
+use allocate::ranks::ranks_of;
 use envelope::AdsrSpec;
+use play::places::Placed;
+use play::places::place;
 use start::Request;
 
 fn wide_at(l: &[u8], k: usize) -> u16
@@ -33,18 +37,27 @@ fn request_at(l: &[u8], k: usize) -> Request
 }
 
 impl AudioEngine {
-    // Plays every request of the slice, one after another. Fewer than ten bytes at its end are no request.
+    // Plays every request of the slice, one after another. Fewer than ten bytes at its end are no request. Voices and their ranks stay in
+    // locals, since a state handed over for each request would cost more in copies than the request.
     pub fn play_all(self, bytes: &[u8], requests: &[u8]) -> AudioEngine
         requires { ⌜ ValidEngine self ⌝ }
         ensures { λ r. ⌜ PlaysAll self (now (bytes .entry)) (now (requests .entry)) r ⌝ }
     {
         let count = requests.len() / 10;
         let mut state = self.state;
+        let voices = state.voices;
+        let mut ranks = ranks_of(voices);
         for i in 0..count {
             let request = request_at(requests, 10 * i);
-            let p = play::play_request(state, bytes, request);
-            let next = p.mixer;
-            state = next;
+            let bank = state.bank;
+            let policy = state.stealing_policy;
+            match place(&ranks, state.n, policy, bank, bytes, request) {
+                Placed::Refused(_) => {}
+                Placed::Voice(k, v) => {
+                    ranks[k] = rank(v);
+                    state.voices[k] = v;
+                }
+            }
         }
         AudioEngine { state }
     }

@@ -1,10 +1,12 @@
--- The records 11, 13 to 1D and 30: the length and the fields that each allows, the call that it makes, and the reply. Fields count
+-- The records 11, 13 to 1D, 2B, 2C and 30: the length and the fields that each allows, the call that it makes, and the reply. Fields count
 -- from byte 1 on. Assumes nothing.
 use Prim.Native.Nat.{ℕ, _+_, _*_}
 use mathlib.Core.Bool.{Bool, false, cond, _&&_}
 use mathlib.Core.List.{List}
 use lib.Dec.{leb, eqb}
 use lib.ListN.{length}
+use mir.Syntax.{w8}
+use mir.Val.{ofZ}
 use Rattle.error.specs.Numbers.{numberOf}
 use Rattle.error.specs.declared.AudioError.the-variants as E
 use Rattle.allocate.specs.Allocation.{allocated}
@@ -16,6 +18,7 @@ use Rattle.bank.specs.declared.EntryRead.the-variants as F
 use Rattle.mixer.specs.Mixers as M
 use Rattle.mixer.specs.declared.Outcome.{Outcome}
 use Rattle.mixer.specs.declared.Outcome.the-variants as O
+use Rattle.frame.specs.Frames.{stereoFrame, dutyFrame}
 use Rattle.play.specs.Plays.{played, toned, polyBleped}
 use Rattle.play.specs.Fades.{faded}
 use Rattle.play.specs.declared.PlayOutcome.{PlayOutcome}
@@ -24,6 +27,9 @@ use Rattle.engine.specs.Engines.{ValidEngine, boxed, changedBox, playedBox, req
 use Rattle.engine.specs.declared.AudioEngine.{AudioEngine}
 use Rattle.engine.specs.declared.EngineChanged.{EngineChanged}
 use Rattle.engine.specs.declared.EnginePlayed.{EnginePlayed}
+use Rattle.engine.specs.Ticks.{sidesBox, dutyBox}
+use Rattle.engine.specs.declared.ticks.EngineDuty.{EngineDuty}
+use Rattle.engine.specs.declared.ticks.EngineSides.{EngineSides}
 use Rattle.hex.specs.Hex.{byteAt, wideAt, longAt}
 use Rattle.fields.specs.Read.{specAt, toneWaveform, polyBlepWaveform}
 use Rattle.fields.specs.States.{flagNumber}
@@ -54,7 +60,9 @@ allowed code l =
     (cond (eqb code 0x1B) (sizedAs 6 l)
     (cond (eqb code 0x1C) (sizedAs 1 l)
     (cond (eqb code 0x1D) (sizedAs 0 l)
-    (cond (eqb code 0x30) (sizedAs 0 l) false))))))))))))
+    (cond (eqb code 0x2B) (sizedAs 0 l)
+    (cond (eqb code 0x2C) (sizedAs 0 l)
+    (cond (eqb code 0x30) (sizedAs 0 l) false))))))))))))))
 
 -- "number: two digits, 00 where accepted, else the refusal number"
 abbrev pub outcomeReply : Outcome → Reply
@@ -131,6 +139,20 @@ allocateCall l e = asked (allocatedReply (allocated (e .state) (byteAt l 1))) e
 unfoldable pub audibleCall : AudioEngine → Called
 audibleCall e = asked (R.Two (flagNumber (M.playing (e .state))) (M.audibleCount (e .state))) e
 
+-- 2B, one stereo frame, i8: "left, right (2 digits each)"
+abbrev pub sidesCall : EngineSides → Called
+sidesCall f = asked (R.Two (ofZ w8 (f .left)) (ofZ w8 (f .right))) (f .engine)
+
+unfoldable pub stereoCall : AudioEngine → Called
+stereoCall e = sidesCall (sidesBox (stereoFrame (e .state)))
+
+-- 2C, one duty: "4 digits"
+abbrev pub widthCall : EngineDuty → Called
+widthCall f = asked (R.Wide (f .duty)) (f .engine)
+
+unfoldable pub dutyCall : AudioEngine → Called
+dutyCall e = widthCall (dutyBox (dutyFrame (e .state)))
+
 -- by the code. 1B and 30 print what the engine holds.
 unfoldable pub callFor : ℕ → List ℕ → List ℕ → AudioEngine → Called
 callFor code l bytes e =
@@ -146,7 +168,9 @@ callFor code l bytes e =
     (cond (eqb code 0x1B) (asked R.Payload e)
     (cond (eqb code 0x1C) (allocateCall l e)
     (cond (eqb code 0x1D) (audibleCall e)
-    (cond (eqb code 0x30) (asked R.Dump e) (asked R.Bad e)))))))))))))
+    (cond (eqb code 0x2B) (stereoCall e)
+    (cond (eqb code 0x2C) (dutyCall e)
+    (cond (eqb code 0x30) (asked R.Dump e) (asked R.Bad e)))))))))))))))
 
 -- the bytes are those lent; a bad line asks nothing of the engine
 unfoldable pub called : List ℕ → List ℕ → AudioEngine → Called

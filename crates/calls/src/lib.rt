@@ -5,7 +5,7 @@ ghost use lib.Dec.{leb};
 ghost use Rattle.laws.specs.Made.{Made};
 ghost use Rattle.hex.specs.Hex.{byteAt};
 ghost use Rattle.engine.specs.Engines.{ValidEngine};
-ghost use Rattle.calls.specs.Calls.{ValidCalled, sizedAs, allowed, outcomeReply, playReply, bankCall, playCall, fadeCall, toneCall, polyBlepCall, panCall, gainCall, stopCall, entryReply, searchCall, allocatedReply, allocateCall, audibleCall, callFor, called};
+ghost use Rattle.calls.specs.Calls.{ValidCalled, sizedAs, allowed, outcomeReply, playReply, bankCall, playCall, fadeCall, toneCall, polyBlepCall, panCall, gainCall, stopCall, entryReply, searchCall, allocatedReply, allocateCall, audibleCall, stereoCall, dutyCall, callFor, called};
 use allocate::Allocated;
 use bank::EffectEntry;
 use bank::EntryRead;
@@ -14,18 +14,21 @@ use fields::flag_number;
 use fields::polyblep_waveform;
 use fields::spec_at;
 use fields::tone_waveform;
+use fixed::as_u8;
 use hex::byte_at;
 use hex::long_at;
 use hex::wide_at;
 use mixer::Outcome;
 use play::PlayOutcome;
 
-// What is answered: that the line is bad, nothing, one number or two, an entry, the part of the bank that was asked for, the state.
+// What is answered: that the line is bad, nothing, one number or two, a number of four digits, an entry, the part of the bank that was asked for,
+// the state.
 pub enum Reply {
     Bad,
     Nothing,
     Number(u64),
     Two(u64, u64),
+    Wide(u64),
     Entry(EffectEntry),
     Payload,
     Dump,
@@ -62,6 +65,8 @@ fn is_allowed(code: u8, l: &[u8]) -> bool
         0x1b => n == 14,
         0x1c => n == 4,
         0x1d => n == 2,
+        0x2b => n == 2,
+        0x2c => n == 2,
         0x30 => n == 2,
         _ => false,
     }
@@ -235,6 +240,32 @@ fn audible_call(e: AudioEngine) -> Called
     }
 }
 
+fn stereo_call(e: AudioEngine) -> Called
+    requires { ⌜ ValidEngine e ⌝ }
+    ensures { λ r. ⌜ Made ValidCalled (stereoCall e) r ⌝ }
+{
+    let f = e.tick_stereo_pcm();
+    let engine = f.engine;
+    let left = as_u8(f.left) as u64;
+    let right = as_u8(f.right) as u64;
+    Called {
+        reply: Reply::Two(left, right),
+        engine,
+    }
+}
+
+fn duty_call(e: AudioEngine) -> Called
+    requires { ⌜ ValidEngine e ⌝ }
+    ensures { λ r. ⌜ Made ValidCalled (dutyCall e) r ⌝ }
+{
+    let f = e.tick();
+    let engine = f.engine;
+    Called {
+        reply: Reply::Wide(f.duty as u64),
+        engine,
+    }
+}
+
 fn call_for(code: u8, l: &[u8], bytes: &[u8], e: AudioEngine) -> Called
     requires { ⌜ ValidEngine e ⌝ }
     ensures { λ r. ⌜ Made ValidCalled (callFor code (now (l .entry)) (now (bytes .entry)) e) r ⌝ }
@@ -255,6 +286,8 @@ fn call_for(code: u8, l: &[u8], bytes: &[u8], e: AudioEngine) -> Called
         },
         0x1c => allocate_call(l, e),
         0x1d => audible_call(e),
+        0x2b => stereo_call(e),
+        0x2c => duty_call(e),
         0x30 => Called {
             reply: Reply::Dump,
             engine: e,

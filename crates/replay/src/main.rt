@@ -1,6 +1,6 @@
 // Reads a script on standard input and writes the answers to standard output. What a line does and what is answered to it is the
 // library's.
-ghost use Prim.Native.Nat.{_+_, _≤_, _<_};
+ghost use Prim.Native.Nat.{_+_, _≤_};
 ghost use lib.ListN.{length};
 ghost use Rattle.session.specs.Sessions.{ValidSession};
 use libc::STDIN_FILENO;
@@ -18,13 +18,6 @@ struct State {
 struct Run {
     state: State,
     session: Session,
-}
-
-// How much of a line is kept, the place in the chunk after it, and whether the line ended.
-struct Filled {
-    line: usize,
-    next: usize,
-    ended: bool,
 }
 
 // Writes the first n bytes and says whether that went well.
@@ -92,48 +85,7 @@ fn answered(
     }
 }
 
-// Bytes of input up to the line's end. A line of 8,195 bytes is bad wherever it ends, so it ends there.
-fn fill(line: &mut [u8; 8195], at: usize, chunk: &[u8], from: usize) -> Filled
-    requires { ⌜ from < length (now chunk) ⌝ }
-    ensures { λ r. ⌜ (from < r .next) × (r .next ≤ length (now (chunk .entry))) ⌝ }
-{
-    let mut n = at;
-    let mut i = from;
-    while i < chunk.len() {
-        let b = chunk[i];
-        i += 1;
-        if b == 10 {
-            return Filled {
-                line: n,
-                next: i,
-                ended: true,
-            };
-        }
-        if n >= 8195 {
-            return Filled {
-                line: 8195,
-                next: i,
-                ended: true,
-            };
-        }
-        line[n] = b;
-        n += 1;
-        if n == 8195 {
-            return Filled {
-                line: n,
-                next: i,
-                ended: true,
-            };
-        }
-    }
-    Filled {
-        line: n,
-        next: i,
-        ended: false,
-    }
-}
-
-// The lines that end in the chunk, and what it begins of the next.
+// The lines that end in the chunk, and what it begins of the next. A line that fills its 8,195 bytes is bad wherever it ends.
 fn feed(
     r: Run,
     chunk: &[u8],
@@ -149,7 +101,7 @@ fn feed(
     let mut i = 0;
     while i < chunk.len() && t.state.more {
         let s = t.state;
-        let f = fill(line, s.line, chunk, i);
+        let f = lines::fill(line, s.line, chunk, i);
         i = f.next;
         if f.ended {
             t = answered(t, &*line, f.line, lent, out, kept);

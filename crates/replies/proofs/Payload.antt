@@ -1,6 +1,6 @@
 -- A payload's length and text. Assumes nothing.
 use mathlib.Core.Path.{_≡_}
-use mathlib.Core.List.{List, _++_}
+use mathlib.Core.List.{List}
 use Prim.Native.Nat.{ℕ, _≤_}
 use native.Mathlib.Omega.{arith}
 use lib.ListN.{length, length-take}
@@ -8,8 +8,9 @@ use Rattle.bank.specs.Banks.{payloadGiven, partOf, payloadPart}
 use Rattle.bank.specs.declared.BankSet.{BankSet}
 use Rattle.bank.specs.declared.PayloadRead.{PayloadRead}
 use Rattle.bank.specs.declared.PayloadRead.the-variants as P
-use Rattle.hex.specs.Hex.{wideAt, longAt, hexOf, newline, Wrote}
-use Rattle.replies.specs.Texts.{bytesText, payloadNumber, payloadText}
+use Rattle.hex.specs.Hex.{wideAt, longAt, Wrote}
+use Rattle.cells.specs.Cells.{byteText, numberedText}
+use Rattle.replies.specs.Texts.{payloadNumber, payloadText}
 
 -- no longer than was asked for
 pub part-short : (bank : BankSet) (bytes : List ℕ) (offset len : ℕ) → length (payloadPart bank bytes offset len) ≤ len
@@ -19,6 +20,6 @@ part-short bank bytes offset len = by (payloadGiven bank bytes offset len)
     by P.Whole = simp length-take (omega arith)
     by (P.Refused e) = omega arith
 
-pub payload-laid : (bank : BankSet) (l bytes : List ℕ) {part before after : List ℕ} {offset len number next : ℕ} {read : PayloadRead} → offset ≡ longAt l 1 → len ≡ wideAt l 5 → read ≡ payloadGiven bank bytes offset len → number ≡ payloadNumber read → part ≡ payloadPart bank bytes offset len → Wrote before 0 (hexOf 2 number ++ bytesText part ++ newline) after next → Wrote before 0 (payloadText bank l bytes) after next
+pub payload-laid : (bank : BankSet) (l bytes : List ℕ) {part before after : List ℕ} {offset len number next : ℕ} {read : PayloadRead} → offset ≡ longAt l 1 → len ≡ wideAt l 5 → read ≡ payloadGiven bank bytes offset len → number ≡ payloadNumber read → part ≡ payloadPart bank bytes offset len → Wrote before 0 (numberedText 2 number byteText part) after next → Wrote before 0 (payloadText bank l bytes) after next
 unfolding payloadText
 payload-laid bank l bytes o k r n p w = rw (← o, ← k) (rw (n, r, p) at w)

@@ -1,6 +1,6 @@
 -- The text of each reply. Assumes nothing.
 use Prim.Native.Nat.{ℕ}
-use mathlib.Core.List.{List, [], _∷_, _++_}
+use mathlib.Core.List.{List, [], _++_}
 use Rattle.error.specs.Numbers.{numberOf}
 use Rattle.tier.specs.Kinds.{byteOf}
 use Rattle.bank.specs.Banks.{payloadGiven, payloadPart}
@@ -9,15 +9,11 @@ use Rattle.bank.specs.declared.EffectEntry.{EffectEntry}
 use Rattle.bank.specs.declared.PayloadRead.{PayloadRead}
 use Rattle.bank.specs.declared.PayloadRead.the-variants as P
 use Rattle.hex.specs.Hex.{wideAt, longAt, hexOf, newline}
+use Rattle.cells.specs.Cells.{byteText, numberedText}
 use Rattle.mixer.specs.declared.Mixer.{Mixer}
 use Rattle.dump.specs.Dumps.{dumpText}
 use Rattle.calls.specs.declared.Reply.{Reply}
 use Rattle.calls.specs.declared.Reply.the-variants as R
-
--- bytes, two digits each
-unfoldable pub bytesText : List ℕ → List ℕ
-bytesText [] = []
-bytesText (b ∷ bytes) = hexOf 2 b ++ bytesText bytes
 
 -- a bad line "prints FFFF"
 abbrev pub badText : List ℕ
@@ -43,9 +39,9 @@ payloadNumber (P.Refused e) = numberOf e
 -- "offset (4), length (2) | number, then the part's bytes"
 unfoldable pub payloadText : BankSet → List ℕ → List ℕ → List ℕ
 payloadText bank l bytes =
-    hexOf 2 (payloadNumber (payloadGiven bank bytes (longAt l 1) (wideAt l 5)))
-    ++ bytesText (payloadPart bank bytes (longAt l 1) (wideAt l 5))
-    ++ newline
+    numberedText 2 (payloadNumber (payloadGiven bank bytes (longAt l 1) (wideAt l 5)))
+    byteText
+    (payloadPart bank bytes (longAt l 1) (wideAt l 5))
 
 -- two numbers of two digits each
 abbrev pub twoText : ℕ → ℕ → List ℕ
@@ -57,6 +53,7 @@ replyText R.Bad l bytes m = badText
 replyText R.Nothing l bytes m = []
 replyText (R.Number n) l bytes m = hexOf 2 n ++ newline
 replyText (R.Two a b) l bytes m = twoText a b
+replyText (R.Wide n) l bytes m = hexOf 4 n ++ newline
 replyText (R.Entry e) l bytes m = entryText e
 replyText R.Payload l bytes m = payloadText (m .bank) l bytes
 replyText R.Dump l bytes m = dumpText m

@@ -1,13 +1,12 @@
 // Each reply as text, from the front of the buffer on.
 ghost use mathlib.Core.Path.{_≡_};
-ghost use Prim.Native.Nat.{_+_, _*_, _≤_};
-ghost use lib.ListN.{length};
 ghost use Rattle.engine.specs.Engines.{ValidEngine};
 ghost use Rattle.hex.specs.Hex.{Wrote};
-ghost use Rattle.replies.specs.Texts.{bytesText, entryText, payloadNumber, payloadText, twoText, replyText};
+ghost use Rattle.replies.specs.Texts.{entryText, payloadNumber, payloadText, twoText, replyText};
 use bank::EffectEntry;
 use bank::PayloadRead;
 use calls::Reply;
+use cells::put_u8s;
 use dump::put_dump;
 use engine::AudioEngine;
 use hex::end_line;
@@ -48,21 +47,6 @@ fn payload_number(p: PayloadRead) -> u64
     }
 }
 
-// Bytes, two digits each.
-fn put_bytes(out: &mut [u8; 262144], at: usize, bytes: &[u8]) -> usize
-    requires { ⌜ at + 2 * length (now bytes) ≤ 262144 ⌝ }
-    ensures { λ r. ⌜ Wrote (now (out .entry)) at (bytesText (now (bytes .entry))) (now (out .exit)) r ⌝ }
-    ensures { λ r. ⌜ r ≡ at + 2 * length (now (bytes .entry)) ⌝ }
-{
-    let mut next = at;
-    let mut i = 0;
-    while i < bytes.len() {
-        next = put(out, next, bytes[i] as u64, 2);
-        i += 1;
-    }
-    next
-}
-
 // A part of the bank is of at most 65,535 bytes, since its length has two.
 fn put_payload(l: &[u8], bytes: &[u8], e: AudioEngine, out: &mut [u8; 262144]) -> usize
     ensures { λ r. ⌜ Wrote (now (out .entry)) 0 (payloadText (e .state .bank) (now (l .entry)) (now (bytes .entry))) (now (out .exit)) r ⌝ }
@@ -72,9 +56,7 @@ fn put_payload(l: &[u8], bytes: &[u8], e: AudioEngine, out: &mut [u8; 262144]) -
     let read = e.payload_number(bytes, offset, len);
     let number = payload_number(read);
     let part = e.payload(bytes, offset, len);
-    let n = put(out, 0, number, 2);
-    let end = put_bytes(out, n, part);
-    end_line(out, end)
+    put_u8s(out, number, 2, part)
 }
 
 pub fn put_reply(
@@ -92,6 +74,7 @@ pub fn put_reply(
         Reply::Nothing => 0,
         Reply::Number(n) => put_line(out, n, 2),
         Reply::Two(a, b) => put_two(out, a, b),
+        Reply::Wide(n) => put_line(out, n, 4),
         Reply::Entry(entry) => put_entry(out, entry),
         Reply::Payload => put_payload(l, bytes, e, out),
         Reply::Dump => {

@@ -14,7 +14,7 @@ use Rattle.mixer.specs.declared.Outcome.{Outcome}
 use Rattle.mixer.specs.declared.Outcome.the-variants as O
 use Rattle.mixer.specs.declared.VoiceStealingPolicy.{VoiceStealingPolicy}
 use Rattle.mixer.specs.declared.VoiceStealingPolicy.the-variants as P
-use Rattle.engine.specs.Engines.{ValidEngine, changedBox}
+use Rattle.engine.specs.Engines.{ValidEngine, boxed, changedBox}
 use Rattle.engine.specs.declared.AudioEngine.{AudioEngine}
 use Rattle.hex.specs.Hex.{allDigits, byteAt, wideAt, longAt, hexOf, newline, Wrote}
 use Rattle.fields.specs.Read.{modeOf}
@@ -22,6 +22,7 @@ use Rattle.calls.specs.Calls.{sizedAs, called}
 use Rattle.calls.specs.declared.Called.{Called}
 use Rattle.calls.specs.declared.Reply.{Reply}
 use Rattle.calls.specs.declared.Reply.the-variants as R
+use Rattle.fills.specs.Fills.{Fill, fillFor}
 use Rattle.script.specs.Replies.{replyOf}
 use Rattle.script.specs.Answers as A
 use Rattle.replies.specs.Texts.{badText, replyText}
@@ -99,6 +100,7 @@ goesOn R.Bad = false
 goesOn R.Nothing = true
 goesOn (R.Number n) = true
 goesOn (R.Two a b) = true
+goesOn (R.Wide n) = true
 goesOn (R.Entry e) = true
 goesOn R.Payload = true
 goesOn R.Dump = true
@@ -111,24 +113,45 @@ calledAnswer s bytes l c =
       session = record { «is_open» = s .«is_open»; lent = s .lent; engine = c .engine };
     }
 
--- 11, 13 to 1D, 30: "any record but 10 and the 4x ones before an engine is open" is bad
+-- 11, 13 to 1D, 2B, 2C, 30: "any record but 10 and the 4x ones before an engine is open" is bad
 unfoldable pub callAnswer : Session → List ℕ → List ℕ → Answer
 callAnswer s bytes l = cond (s .«is_open») (calledAnswer s bytes l (called l bytes (s .engine))) (badLine s)
+
+-- 20 to 2A: "cells (2) | filled". "At most 2,048 cells in one record."
+abbrev pub fillAllowed : List ℕ → Bool
+fillAllowed l = sizedAs 2 l && leb (wideAt l 1) 2048
+
+abbrev pub filledAnswer : Session → Fill → Answer
+filledAnswer s f =
+    record {
+      text = f .text;
+      more = true;
+      session = record { «is_open» = s .«is_open»; lent = s .lent; engine = boxed (f .mixer) };
+    }
+
+unfoldable pub fillAnswer : Session → List ℕ → Answer
+fillAnswer s l =
+    cond (s .«is_open» && fillAllowed l) (filledAnswer s (fillFor (byteAt l 0) (wideAt l 1) (s .engine .state))) (badLine s)
 
 -- the records that need no engine, 40 and up, and the codes of none
 unfoldable pub aloneAnswer : Session → List ℕ → Answer
 aloneAnswer s l = record { text = A.replyText l; more = A.goesOn (replyOf l); session = s }
 
--- the codes 11, 13 to 1D and 30. 20 to 2C, the frames, are not read yet: they are bad as any code of none.
+-- the codes 11, 13 to 1D, 2B, 2C and 30
 abbrev pub isCall : ℕ → Bool
-isCall code = eqb code 0x11 || (leb 0x13 code && leb code 0x1D) || eqb code 0x30
+isCall code = eqb code 0x11 || (leb 0x13 code && leb code 0x1D) || eqb code 0x2B || eqb code 0x2C || eqb code 0x30
+
+-- the codes 20 to 2A
+abbrev pub isFill : ℕ → Bool
+isFill code = leb 0x20 code && leb code 0x2A
 
 abbrev pub answerFor : ℕ → Session → List ℕ → List ℕ → Answer
 answerFor code s bytes l =
     cond (eqb code 0x10) (openAnswer s l)
     (cond (eqb code 0x12) (lendAnswer s l)
     (cond (isCall code) (callAnswer s bytes l)
-    (aloneAnswer s l)))
+    (cond (isFill code) (fillAnswer s l)
+    (aloneAnswer s l))))
 
 -- "No good line is longer than 8,194 digits; a longer one is bad"
 abbrev pub isLine : List ℕ → Bool

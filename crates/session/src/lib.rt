@@ -5,11 +5,12 @@ ghost use lib.ListN.{length, take};
 ghost use lib.Seq.{sets};
 ghost use Rattle.laws.specs.Made.{Made};
 ghost use Rattle.hex.specs.Hex.{byteAt};
-ghost use Rattle.session.specs.Sessions.{bytesAt, ValidSession, Told, Answers, started, policyOf, configAt, opens, openAnswer, lendAnswer, lentOver, goesOn, callAnswer, aloneAnswer, isCall, answerFor, sessionAnswer, badLine, cellsFor, cellsAfter};
+ghost use Rattle.session.specs.Sessions.{bytesAt, ValidSession, Told, Answers, started, policyOf, configAt, opens, openAnswer, lendAnswer, lentOver, goesOn, callAnswer, fillAnswer, fillAllowed, aloneAnswer, isCall, isFill, answerFor, sessionAnswer, badLine, cellsFor, cellsAfter};
 use calls::Reply;
 use config::AudioConfig;
 use engine::AudioEngine;
 use fields::mode_of;
+use fills::fill;
 use hex::all_digits;
 use hex::byte_at;
 use hex::long_at;
@@ -187,6 +188,7 @@ fn goes_on(r: Reply) -> bool
         Reply::Nothing => true,
         Reply::Number(_) => true,
         Reply::Two(_, _) => true,
+        Reply::Wide(_) => true,
         Reply::Entry(_) => true,
         Reply::Payload => true,
         Reply::Dump => true,
@@ -217,6 +219,34 @@ fn call_answer(l: &[u8], s: Session, cells: &[u8], out: &mut [u8; 262144]) -> Se
     }
 }
 
+fn fill_allowed(l: &[u8]) -> bool
+    ensures { λ r. ⌜ r ≡ fillAllowed (now (l .entry)) ⌝ }
+{
+    l.len() == 6 && wide_at(l, 1) <= 2048
+}
+
+// A record that fills a buffer.
+fn fill_answer(l: &[u8], s: Session, out: &mut [u8; 262144]) -> SessionAnswered
+    requires { ⌜ ValidSession s ⌝ }
+    ensures { λ r. ⌜ Told (fillAnswer s (now (l .entry))) (now (out .entry)) (now (out .exit)) r ⌝ }
+{
+    if !s.is_open {
+        return bad(s, out);
+    }
+    if !fill_allowed(l) {
+        return bad(s, out);
+    }
+    let e = s.engine;
+    let f = fill(byte_at(l, 0), e, wide_at(l, 1) as usize, out);
+    let engine = f.engine;
+    let session = Session { engine, ..s };
+    SessionAnswered {
+        len: f.len,
+        more: true,
+        session,
+    }
+}
+
 // A record that needs no engine.
 fn alone_answer(l: &[u8], s: Session, out: &mut [u8; 262144]) -> SessionAnswered
     requires { ⌜ ValidSession s ⌝ }
@@ -236,7 +266,18 @@ fn is_call(code: u8) -> bool
     match code {
         0x11 => true,
         0x13..=0x1d => true,
+        0x2b => true,
+        0x2c => true,
         0x30 => true,
+        _ => false,
+    }
+}
+
+fn is_fill(code: u8) -> bool
+    ensures { λ r. ⌜ r ≡ isFill code ⌝ }
+{
+    match code {
+        0x20..=0x2a => true,
         _ => false,
     }
 }
@@ -264,6 +305,9 @@ fn answer_for(
     }
     if is_call(code) {
         return call_answer(l, s, &*lent, out);
+    }
+    if is_fill(code) {
+        return fill_answer(l, s, out);
     }
     alone_answer(l, s, out)
 }

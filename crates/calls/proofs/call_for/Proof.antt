@@ -56,16 +56,26 @@ returns-12 c = rw (c .before .match .keys12) (c .audible-call .ensures)
 
 returns-13 : tie.Need-returns-13
 unfolding callFor
-returns-13 c = rw (c .match .keys13) (record { same = refl; valid = c .before .before .before .pre })
+returns-13 c = rw (c .before .match .keys13) (c .stereo-call .ensures)
 
 returns-14 : tie.Need-returns-14
 unfolding callFor
-returns-14 c = let r = c .match .rest in rw (ne-eqb _ _ (r .0 .0 .0 .0 .0 .0 .0 .0 .0 .0 .0 .0 .1), ne-eqb _ _ (r .0 .0 .0 .0 .0 .0 .0 .0 .0 .0 .0 .1), ne-eqb _ _ (r .0 .0 .0 .0 .0 .0 .0 .0 .0 .0 .1), ne-eqb _ _ (r .0 .0 .0 .0 .0 .0 .0 .0 .0 .1), ne-eqb _ _ (r .0 .0 .0 .0 .0 .0 .0 .0 .1), ne-eqb _ _ (r .0 .0 .0 .0 .0 .0 .0 .1), ne-eqb _ _ (r .0 .0 .0 .0 .0 .0 .1), ne-eqb _ _ (r .0 .0 .0 .0 .0 .1), ne-eqb _ _ (r .0 .0 .0 .0 .1), ne-eqb _ _ (r .0 .0 .0 .1), ne-eqb _ _ (r .0 .0 .1), ne-eqb _ _ (r .0 .1), ne-eqb _ _ (r .1)) (record { same = refl; valid = c .before .before .before .pre })
+returns-14 c = rw (c .before .match .keys14) (c .duty-call .ensures)
+
+returns-15 : tie.Need-returns-15
+unfolding callFor
+returns-15 c = rw (c .match .keys15) (record { same = refl; valid = c .before .before .before .pre })
+
+returns-16 : tie.Need-returns-16
+unfolding callFor
+returns-16 c = let r = c .match .rest in rw (ne-eqb _ _ (r .0 .0 .0 .0 .0 .0 .0 .0 .0 .0 .0 .0 .0 .0 .1), ne-eqb _ _ (r .0 .0 .0 .0 .0 .0 .0 .0 .0 .0 .0 .0 .0 .1), ne-eqb _ _ (r .0 .0 .0 .0 .0 .0 .0 .0 .0 .0 .0 .0 .1), ne-eqb _ _ (r .0 .0 .0 .0 .0 .0 .0 .0 .0 .0 .0 .1), ne-eqb _ _ (r .0 .0 .0 .0 .0 .0 .0 .0 .0 .0 .1), ne-eqb _ _ (r .0 .0 .0 .0 .0 .0 .0 .0 .0 .1), ne-eqb _ _ (r .0 .0 .0 .0 .0 .0 .0 .0 .1), ne-eqb _ _ (r .0 .0 .0 .0 .0 .0 .0 .1), ne-eqb _ _ (r .0 .0 .0 .0 .0 .0 .1), ne-eqb _ _ (r .0 .0 .0 .0 .0 .1), ne-eqb _ _ (r .0 .0 .0 .0 .1), ne-eqb _ _ (r .0 .0 .0 .1), ne-eqb _ _ (r .0 .0 .1), ne-eqb _ _ (r .0 .1), ne-eqb _ _ (r .1)) (record { same = refl; valid = c .before .before .before .pre })
 
 pub call-for-spec : {M : Type 1} → statement M
 call-for-spec =
     tie.close
     (tie.spec
+    (λ c κs. search needs)
+    (λ c κs. search needs)
     (λ c κs. search needs)
     (λ c κs. search needs)
     (λ c κs. search needs)
@@ -90,4 +100,6 @@ call-for-spec =
     returns-11
     returns-12
     returns-13
-    returns-14)
+    returns-14
+    returns-15
+    returns-16)

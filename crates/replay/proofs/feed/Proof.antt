@@ -1,9 +1,10 @@
 -- `replay::feed` is safe, ends and keeps the run valid. The measure is what is left of the chunk.
 use borrow.Author.Needs.{needs}
-use Prim.Native.Nat.{_-_, _≤_}
+use Prim.Native.Nat.{_-_, _≤_, _<_}
 use native.Mathlib.Omega.{arith}
 use lib.ListN.{length}
 use Rattle.session.specs.Sessions.{ValidSession}
+use Rattle.lines.proofs.Laws.{reads-on}
 use Rattle.replay.proofs.feed.Statement.{statement}
 use Rattle.replay.proofs.feed.Tie as tie
 
@@ -13,6 +14,12 @@ Inv-loop chunk line₀ lent₀ out₀ kept₀ t₀ i₀ line lent out kept t i =
 abbrev μ-loop : tie.MeasureT-loop
 μ-loop chunk line₀ lent₀ out₀ kept₀ t₀ i₀ line lent out kept t i = length chunk - i
 
+on : (c : tie.After-fill Inv-loop μ-loop) → let l = c .before .before .before .before .before in
+    (l .loop .i < c .fill .result .next) × (c .fill .result .next ≤ length (l .before .before .args .chunk .now))
+on c =
+    let t = c .before .before .before .before in
+    reads-on _ _ _ (t .before .loop .i) (t .loop-test .taken) (c .fill .ensures)
+
 pub feed-spec : {M : Type 1} → statement M
 feed-spec =
     tie.close
@@ -20,11 +27,11 @@ feed-spec =
     Inv-loop
     μ-loop
     (λ c. (omega arith, search needs))
-    (λ c κs. omega arith)
     (λ c κs. search needs)
-    (λ c. omega arith)
-    (λ c. (omega arith, search needs))
-    (λ c. omega arith)
-    (λ c. (omega arith, search needs))
+    (λ c κs. search needs)
+    (λ c. omega (arith, on (c .before .before .before .before .before .before .before)))
+    (λ c. (omega (arith, on (c .before .before .before .before .before .before .before)), search needs))
+    (λ c. omega (arith, on (c .before .before)))
+    (λ c. (omega (arith, on (c .before .before)), search needs))
     (λ c. search needs)
     (λ c. search needs))

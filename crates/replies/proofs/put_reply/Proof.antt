@@ -21,13 +21,16 @@ returns-4 : tie.Need-returns-4
 returns-4 c = rw (c .before .before .before .reply2 .given .1) (c .put-two .ensures)
 
 returns-5 : tie.Need-returns-5
-returns-5 c = rw (c .before .before .before .reply3 .given .1) (c .put-entry .ensures)
+returns-5 c = rw (c .before .before .before .reply3 .given .1) (c .put-line3 .ensures .0)
 
 returns-6 : tie.Need-returns-6
-returns-6 c = rw (c .before .before .enum-told3 .given .1) (c .put-payload .ensures)
+returns-6 c = rw (c .before .before .before .reply4 .given .1) (c .put-entry .ensures)
 
 returns-7 : tie.Need-returns-7
-returns-7 c = rw (c .before .before .before .enum-told4 .given .1, sym (c .before .before .state .ensures)) (c .put-dump .ensures)
+returns-7 c = rw (c .before .before .enum-told3 .given .1) (c .put-payload .ensures)
+
+returns-8 : tie.Need-returns-8
+returns-8 c = rw (c .before .before .before .enum-told4 .given .1, sym (c .before .before .state .ensures)) (c .put-dump .ensures)
 
 pub put-reply-spec : {M : Type 1} → statement M
 put-reply-spec =
@@ -46,6 +49,8 @@ put-reply-spec =
     (λ c κs. search needs)
     (λ c. search needs)
     (λ c κs. search needs)
+    (λ c. search needs)
+    (λ c κs. search needs)
     put-dump-requires
     returns
     returns-2
@@ -53,4 +58,5 @@ put-reply-spec =
     returns-4
     returns-5
     returns-6
-    returns-7)
+    returns-7
+    returns-8)

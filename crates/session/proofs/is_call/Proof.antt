@@ -11,22 +11,30 @@ returns-2 : tie.Need-returns-2
 returns-2 c = rw (c .match .keys2)
 
 returns-3 : tie.Need-returns-3
-returns-3 c =
-    let m = c .before .before in
-    let x = m .before .args .code in
-    rw (ne-eqb _ _ (m .match .rest .0 .1), le-leb 0x13 x (omega arith), le-leb x 0x1D (omega arith))
+returns-3 c = rw (c .match .keys3)
 
 returns-4 : tie.Need-returns-4
-returns-4 c =
-    let m = c .before in
-    let x = m .before .args .code in
-    rw (ne-eqb _ _ (m .match .rest .0 .1), lt-leb 0x13 x (omega arith), ne-eqb _ _ (m .match .rest .1))
+returns-4 c = rw (c .match .keys4)
 
 returns-5 : tie.Need-returns-5
 returns-5 c =
     let m = c .before .before in
     let x = m .before .args .code in
-    rw (ne-eqb _ _ (m .match .rest .0 .1), le-leb 0x13 x (omega arith), lt-leb x 0x1D (omega arith), ne-eqb _ _ (m .match .rest .1))
+    rw (ne-eqb _ _ (m .match .rest .0 .0 .0 .1), le-leb 0x13 x (omega arith), le-leb x 0x1D (omega arith))
+
+returns-6 : tie.Need-returns-6
+returns-6 c =
+    let m = c .before in
+    let x = m .before .args .code in
+    let r = m .match .rest in
+    rw (ne-eqb _ _ (r .0 .0 .0 .1), lt-leb 0x13 x (omega arith), ne-eqb _ _ (r .0 .0 .1), ne-eqb _ _ (r .0 .1), ne-eqb _ _ (r .1))
+
+returns-7 : tie.Need-returns-7
+returns-7 c =
+    let m = c .before .before in
+    let x = m .before .args .code in
+    let r = m .match .rest in
+    rw (ne-eqb _ _ (r .0 .0 .0 .1), le-leb 0x13 x (omega arith), lt-leb x 0x1D (omega arith), ne-eqb _ _ (r .0 .0 .1), ne-eqb _ _ (r .0 .1), ne-eqb _ _ (r .1))
 
 pub is-call-spec : {M : Type 1} → statement M
 is-call-spec =
@@ -36,4 +44,6 @@ is-call-spec =
     returns-2
     returns-3
     returns-4
-    returns-5)
+    returns-5
+    returns-6
+    returns-7)

@@ -1,0 +1,60 @@
+-- `fills::dac_u8` meets its contract: the part that the call left is printed whole.
+use borrow.Author.Needs.{needs}
+use mathlib.Core.Path.{_≡_, sym}
+use native.Mathlib.Omega.{arith}
+use mathlib.Core.List.{_++_}
+use lib.ListN.{length, take, drop}
+use Rattle.output.specs.Levels.{raised}
+use Rattle.frame.specs.Runs.{monoStep}
+use Rattle.buffers.specs.Buffers.{once}
+use Rattle.cells.specs.Cells.{byteText}
+use Rattle.fills.specs.Fills.{blankU8}
+use Rattle.fills.proofs.Buffers.{Lent, lent-length, back-fits, back-length, singly-shown}
+use Rattle.fills.proofs.dac_u8.Statement.{statement}
+use Rattle.fills.proofs.dac_u8.Tie as tie
+
+lent : (c : tie.After-blank-u8s) → Lent blankU8 (c .before .args .n) (c .blank-u8s .result)
+lent c = record { fits = c .before .pre .1; fresh = c .blank-u8s .ensures }
+
+slice-aggregate-fill-dac-u8-buffer : tie.Need-slice-aggregate-fill-dac-u8-buffer
+slice-aggregate-fill-dac-u8-buffer c = let b = c .before in sym (lent-length (b .before .args .n) (lent b))
+
+array-share-prefix-cells : tie.Need-array-share-prefix-cells
+array-share-prefix-cells c =
+    let f = c .before .before .before in
+    let b = f .before .before in
+    let n = b .before .args .n in
+    back-fits n (f .fill-dac-u8-buffer .last .1 .0) (drop n (b .blank-u8s .result)) (lent b) (f .fill-dac-u8-buffer .kept .1 .0)
+
+printed : (c : tie.After-cells3) → let f = c .before .before .before .before in let b = f .before .before in let n = b .before .args .n in length (take n (f .fill-dac-u8-buffer .last .1 .0 ++ drop n (b .blank-u8s .result))) ≡ n
+printed c =
+    let f = c .before .before .before .before in
+    let b = f .before .before in
+    let n = b .before .args .n in
+    back-length n (f .fill-dac-u8-buffer .last .1 .0) (drop n (b .blank-u8s .result)) (lent b) (f .fill-dac-u8-buffer .kept .1 .0)
+
+slice-aggregate-put-u8s : tie.Need-slice-aggregate-put-u8s
+slice-aggregate-put-u8s c = sym (printed c)
+
+put-u8s-requires : tie.Need-put-u8s-requires
+put-u8s-requires c κs = omega (arith, printed c, c .before .before .before .before .before .before .before .pre .1)
+
+returns : tie.Need-returns
+returns c =
+    let f = c .before .before .before .before .before in
+    let b = f .before .before in
+    let n = b .before .args .n in
+    singly-shown byteText monoStep (once raised) n (f .fill-dac-u8-buffer .last .1 .0) (drop n (b .blank-u8s .result)) (lent b) (f .fill-dac-u8-buffer .kept .1 .0) (f .fill-dac-u8-buffer .ensures) (c .put-u8s .ensures)
+
+pub dac-u8-spec : {M : Type 1} → statement M
+dac-u8-spec =
+    tie.close
+    (tie.spec
+    (λ c κs. search needs)
+    (λ c. search needs)
+    slice-aggregate-fill-dac-u8-buffer
+    (λ c κs. search needs)
+    array-share-prefix-cells
+    slice-aggregate-put-u8s
+    put-u8s-requires
+    returns)

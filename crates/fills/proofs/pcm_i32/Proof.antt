@@ -1,0 +1,59 @@
+-- `fills::pcm_i32` meets its contract: the part that the call left is printed whole.
+use borrow.Author.Needs.{needs}
+use mathlib.Core.Path.{_≡_, sym}
+use native.Mathlib.Omega.{arith}
+use mathlib.Core.List.{_++_}
+use lib.ListN.{length, take, drop}
+use Rattle.frame.specs.Runs.{monoStep}
+use Rattle.buffers.specs.Buffers.{once, toI32}
+use Rattle.cells.specs.Cells.{i32Text}
+use Rattle.fills.specs.Fills.{blankI32}
+use Rattle.fills.proofs.Buffers.{Lent, lent-length, back-fits, back-length, singly-shown}
+use Rattle.fills.proofs.pcm_i32.Statement.{statement}
+use Rattle.fills.proofs.pcm_i32.Tie as tie
+
+lent : (c : tie.After-blank-i32s) → Lent blankI32 (c .before .args .n) (c .blank-i32s .result)
+lent c = record { fits = c .before .pre .1; fresh = c .blank-i32s .ensures }
+
+slice-aggregate-fill-pcm-i32-buffer : tie.Need-slice-aggregate-fill-pcm-i32-buffer
+slice-aggregate-fill-pcm-i32-buffer c = let b = c .before in sym (lent-length (b .before .args .n) (lent b))
+
+array-share-prefix-cells : tie.Need-array-share-prefix-cells
+array-share-prefix-cells c =
+    let f = c .before .before .before in
+    let b = f .before .before in
+    let n = b .before .args .n in
+    back-fits n (f .fill-pcm-i32-buffer .last .1 .0) (drop n (b .blank-i32s .result)) (lent b) (f .fill-pcm-i32-buffer .kept .1 .0)
+
+printed : (c : tie.After-cells3) → let f = c .before .before .before .before in let b = f .before .before in let n = b .before .args .n in length (take n (f .fill-pcm-i32-buffer .last .1 .0 ++ drop n (b .blank-i32s .result))) ≡ n
+printed c =
+    let f = c .before .before .before .before in
+    let b = f .before .before in
+    let n = b .before .args .n in
+    back-length n (f .fill-pcm-i32-buffer .last .1 .0) (drop n (b .blank-i32s .result)) (lent b) (f .fill-pcm-i32-buffer .kept .1 .0)
+
+slice-aggregate-put-i32s : tie.Need-slice-aggregate-put-i32s
+slice-aggregate-put-i32s c = sym (printed c)
+
+put-i32s-requires : tie.Need-put-i32s-requires
+put-i32s-requires c κs = omega (arith, printed c, c .before .before .before .before .before .before .before .pre .1)
+
+returns : tie.Need-returns
+returns c =
+    let f = c .before .before .before .before .before in
+    let b = f .before .before in
+    let n = b .before .args .n in
+    singly-shown i32Text monoStep (once toI32) n (f .fill-pcm-i32-buffer .last .1 .0) (drop n (b .blank-i32s .result)) (lent b) (f .fill-pcm-i32-buffer .kept .1 .0) (f .fill-pcm-i32-buffer .ensures) (c .put-i32s .ensures)
+
+pub pcm-i32-spec : {M : Type 1} → statement M
+pcm-i32-spec =
+    tie.close
+    (tie.spec
+    (λ c κs. search needs)
+    (λ c. search needs)
+    slice-aggregate-fill-pcm-i32-buffer
+    (λ c κs. search needs)
+    array-share-prefix-cells
+    slice-aggregate-put-i32s
+    put-i32s-requires
+    returns)

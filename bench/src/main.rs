@@ -1,0 +1,90 @@
+//! Runs the port and the Rust original on the same jobs, compares their answers, and measures.
+//! Usage: bench time [BEGINNING]       compares the answers in each case, or in those whose names begin so, and prints for each:
+//!                                     name, unit, units, the original's nanoseconds and the port's
+//!        bench original|port NAME     one side's job in one case, for callgrind
+
+mod cases;
+mod job;
+mod original;
+mod port;
+
+use std::time::{Duration, Instant};
+
+use cases::Case;
+use job::{Answer, run};
+
+/// For each case, and no fewer rounds than this.
+const TIME: Duration = Duration::from_millis(1500);
+const ROUNDS: usize = 15;
+
+// Callgrind knows the two by these names.
+
+#[unsafe(no_mangle)]
+#[inline(never)]
+extern "C" fn bench_original(case: &Case, answer: &mut Answer) {
+    run::<original::Original>(&case.job, &case.script, answer);
+}
+
+#[unsafe(no_mangle)]
+#[inline(never)]
+extern "C" fn bench_port(case: &Case, answer: &mut Answer) {
+    run::<port::Port>(&case.job, &case.script, answer);
+}
+
+type Run = extern "C" fn(&Case, &mut Answer);
+
+/// The least time of a run so far, and this one's.
+fn timed(run: Run, case: &Case, answer: &mut Answer, least: &mut Duration) {
+    let begun = Instant::now();
+    run(case, answer);
+    *least = begun.elapsed().min(*least);
+}
+
+/// Once each: the answers are the same and tell something.
+fn compare(case: &Case) {
+    let empty = Answer::to(&case.job);
+    let (mut original, mut port) = (empty.clone(), empty);
+    bench_original(case, &mut original);
+    bench_port(case, &mut port);
+    assert!(original == port, "{}: answers differ", case.name);
+    assert!(original.is_telling(), "{}: silence", case.name);
+}
+
+/// The least times of both. They take turns, so that what else runs on the machine meets both.
+fn time(case: &Case) -> [Duration; 2] {
+    let mut answer = Answer::to(&case.job);
+    let mut least = [Duration::MAX; 2];
+    let begun = Instant::now();
+    for round in 0.. {
+        if round >= ROUNDS && begun.elapsed() > TIME {
+            break;
+        }
+        timed(bench_original, case, &mut answer, &mut least[0]);
+        timed(bench_port, case, &mut answer, &mut least[1]);
+    }
+    least
+}
+
+fn main() {
+    let mut words = std::env::args().skip(1);
+    let command = words.next().unwrap_or_default();
+    let name = words.next().unwrap_or_default();
+    for case in cases::all()
+        .iter()
+        .filter(|case| case.name.starts_with(&name))
+    {
+        match command.as_str() {
+            "time" => {
+                compare(case);
+                let [original, port] = time(case).map(|t| t.as_nanos());
+                println!(
+                    "{}\t{}\t{}\t{original}\t{port}",
+                    case.name, case.unit, case.units
+                );
+            }
+            "original" => bench_original(case, &mut Answer::to(&case.job)),
+            "port" => bench_port(case, &mut Answer::to(&case.job)),
+            _ => panic!("usage: bench time [BEGINNING] | original NAME | port NAME"),
+        }
+    }
+}

@@ -1,0 +1,1 @@
+-- How the calls for other languages are proved. Assumes nothing.

@@ -1,0 +1,2 @@
+-- What a reader believes of the calls for other languages.
+pub mod Exports

@@ -1,29 +1,32 @@
 # make               proves and builds the programs, and runs each on an example
 # make test          all that the gate runs
 # make differential  the long comparison with the Rust original
+# make edits         the must-fail edits that the gate leaves out
+# make bench         the comparison with it in speed (docs/SPEED.md); it takes minutes and belongs to no gate
 
-.PHONY: main test differential oracle-tests record
+.PHONY: main test differential bench edits oracle-tests record
 
 main:
 	rt check
 	target/bin/replay < docs/example.script
+	target/bin/framelist < crates/framelist/stdin
 
-# The comparison comes before the verdict, since `rt ci` begins from nothing and its line is the last.
 test:
-	tools/checksums
-	rt fmt --check
-	$(MAKE) --no-print-directory oracle-tests
-	rt check
-	tools/differential short target/bin/replay engine
-	rt ci
+	tools/gate
 
 differential:
 	rt check replay
-	tools/differential long target/bin/replay engine
+	tools/differential long target/bin/replay frames
+
+bench:
+	tools/bench
+
+edits:
+	tools/edits
 
 oracle-tests:
 	cargo test --release --offline --locked --quiet --manifest-path oracle/Cargo.toml --target-dir oracle/target
 
 # The list of the oracle's answers that `rt ci` replays with no Rust at hand.
 record:
-	tools/record crates/replay engine
+	tools/record crates/replay frames

@@ -46,10 +46,10 @@ fn records_are_counted() {
     let script = [&[OPEN], &silent[..], &["30", PLAY, "1D"]].concat();
     assert_eq!(
         count("all", &script, &["00", DUMP, "0", "0", "06FF", "0000"]),
-        "10 1\n"
+        "10 1 0\n"
     );
     // The last answers are missing.
-    assert_eq!(count("cut", &script, &["00", DUMP, "0", "0"]), "8 0\n");
+    assert_eq!(count("cut", &script, &["00", DUMP, "0", "0"]), "8 0 0\n");
     let lines = [
         "4800000004FF0000000003E800010000",
         "46000002",
@@ -58,8 +58,17 @@ fn records_are_counted() {
     ];
     assert_eq!(
         count("lines", &lines, &["00", "3F", "000001", "02", "FFFF"]),
-        "4 0\n"
+        "4 0 0\n"
     );
+}
+
+/// A buffer's frames are told by its filled length, half of it for pairs.
+#[test]
+fn frames_are_counted() {
+    let script = [OPEN, "200003", "290005", "2B", "2C"];
+    let answers = ["00", "000301F401F401F4", "00040000000000000000A5A5", "0000", "01F4"];
+    assert_eq!(count("frames", &script, &answers), "5 0 7\n");
+    assert_eq!(count("no frames", &[OPEN, "200801"], &["00", "FFFF"]), "2 0 0\n");
 }
 
 /// A bad line is the last one that is read, also one whose record prints nothing when it is good.
@@ -77,21 +86,21 @@ fn a_bad_line_ends_the_run() {
         "2b",
     ] {
         let script = [OPEN, "19", bad, "19", PLAY];
-        assert_eq!(count("bad", &script, &["00", "FFFF"]), "3 0\n", "{bad}");
+        assert_eq!(count("bad", &script, &["00", "FFFF"]), "3 0 0\n", "{bad}");
     }
     assert_eq!(
         count("bad play", &[OPEN, "13", "19"], &["00", "FFFF"]),
-        "2 0\n"
+        "2 0 0\n"
     );
     // Before an engine is open, a refused one too.
-    assert_eq!(count("unopened", &["12", "19", "19"], &["FFFF"]), "2 0\n");
+    assert_eq!(count("unopened", &["12", "19", "19"], &["FFFF"]), "2 0 0\n");
     let refused = ["101100001F4003E800FF00", "1800", "19"];
-    assert_eq!(count("refused", &refused, &["01", "FFFF"]), "2 0\n");
+    assert_eq!(count("refused", &refused, &["01", "FFFF"]), "2 0 0\n");
     // These answers look like one to a bad line.
     let like = [OPEN, "4380", "52FFFF0000", "2B", "19"];
     assert_eq!(
         count("like", &like, &["00", "FFFF", "FFFF", "FFFF"]),
-        "5 0\n"
+        "5 0 0\n"
     );
 }
 

@@ -1,5 +1,5 @@
-//! Puts a script's records beside their answers. `align SCRIPT ANSWERS` prints how many records were read, and how many of
-//! them were play requests; `align SCRIPT ANSWERS OTHER` prints the first record whose answers differ, and both of them.
+//! Puts a script's records beside their answers. `align SCRIPT ANSWERS` prints how many records were read, how many of
+//! them were play requests, and how many frames they gave; `align SCRIPT ANSWERS OTHER` prints the first record whose answers differ, and both of them.
 
 use std::{env, fs, process};
 
@@ -137,12 +137,30 @@ fn hex(digits: &[u8]) -> u64 {
 }
 
 fn count(script: &[u8], answers: &[u8]) {
-    let (mut records, mut plays) = (0, 0);
+    let (mut records, mut plays, mut frames) = (0, 0, 0);
     for (record, answer) in align(script, answers) {
         records += 1;
         plays += (record.starts_with(b"13") && answer[0] != BAD) as u32;
+        frames += frames_of(record, &answer);
     }
-    println!("{records} {plays}");
+    println!("{records} {plays} {frames}");
+}
+
+/// The frames that a record was answered with: a buffer's are told by its filled length.
+fn frames_of(record: &[u8], answer: &[&[u8]]) -> u64 {
+    let Some(line) = answer.first().filter(|line| **line != BAD) else {
+        return 0;
+    };
+    let filled = || {
+        let digits = line.get(..4).and_then(|digits| std::str::from_utf8(digits).ok());
+        digits.and_then(|digits| u64::from_str_radix(digits, 16).ok()).unwrap_or(0)
+    };
+    match record.get(..2) {
+        Some(b"20" | b"21" | b"22" | b"23" | b"24" | b"25" | b"26") => filled(),
+        Some(b"27" | b"28" | b"29" | b"2A") => filled() / 2,
+        Some(b"2B" | b"2C") => 1,
+        _ => 0,
+    }
 }
 
 /// The other answers are cut as the first ones are, so that they are laid beside the same records also where they are wrong.

@@ -66,9 +66,18 @@ fn records_are_counted() {
 #[test]
 fn frames_are_counted() {
     let script = [OPEN, "200003", "290005", "2B", "2C"];
-    let answers = ["00", "000301F401F401F4", "00040000000000000000A5A5", "0000", "01F4"];
+    let answers = [
+        "00",
+        "000301F401F401F4",
+        "00040000000000000000A5A5",
+        "0000",
+        "01F4",
+    ];
     assert_eq!(count("frames", &script, &answers), "5 0 7\n");
-    assert_eq!(count("no frames", &[OPEN, "200801"], &["00", "FFFF"]), "2 0 0\n");
+    assert_eq!(
+        count("no frames", &[OPEN, "200801"], &["00", "FFFF"]),
+        "2 0 0\n"
+    );
 }
 
 /// A bad line is the last one that is read, also one whose record prints nothing when it is good.

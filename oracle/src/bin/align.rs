@@ -152,8 +152,12 @@ fn frames_of(record: &[u8], answer: &[&[u8]]) -> u64 {
         return 0;
     };
     let filled = || {
-        let digits = line.get(..4).and_then(|digits| std::str::from_utf8(digits).ok());
-        digits.and_then(|digits| u64::from_str_radix(digits, 16).ok()).unwrap_or(0)
+        let digits = line
+            .get(..4)
+            .and_then(|digits| std::str::from_utf8(digits).ok());
+        digits
+            .and_then(|digits| u64::from_str_radix(digits, 16).ok())
+            .unwrap_or(0)
     };
     match record.get(..2) {
         Some(b"20" | b"21" | b"22" | b"23" | b"24" | b"25" | b"26") => filled(),

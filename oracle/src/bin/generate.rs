@@ -8,6 +8,8 @@ mod bank;
 mod banks;
 #[path = "generate/draw.rs"]
 mod draw;
+#[path = "generate/drift.rs"]
+mod drift;
 #[path = "generate/edges.rs"]
 mod edges;
 #[path = "generate/engine.rs"]

@@ -2,7 +2,7 @@
 
 use crate::enginebad::{self, ENGINE, FRAMES};
 use crate::script::Script;
-use crate::{banks, plays};
+use crate::{banks, drift, plays};
 
 type Print = fn(&mut Script, u64, u64);
 
@@ -16,7 +16,8 @@ pub const NAMES: [(&str, Print); 3] = [
     }),
 ];
 
-pub const FRAME_NAMES: [(&str, Print); 2] = [
+pub const FRAME_NAMES: [(&str, Print); 3] = [
+    ("drift", drift::print),
     ("frames", |script, seed, count| {
         plays::print(script, seed, count, true)
     }),

@@ -11,7 +11,7 @@ mod port;
 use std::time::{Duration, Instant};
 
 use cases::Case;
-use job::{Answer, run};
+use job::{Answer, Job, Script, run};
 
 /// For each case, and no fewer rounds than this.
 const TIME: Duration = Duration::from_millis(1500);
@@ -41,13 +41,21 @@ fn timed(run: Run, case: &Case, answer: &mut Answer, least: &mut Duration) {
 }
 
 /// Once each: the answers are the same and tell something.
-fn compare(case: &Case) {
-    let empty = Answer::to(&case.job);
+fn compare_job(name: &str, job: &Job, script: &Script) {
+    let empty = Answer::to(job);
     let (mut original, mut port) = (empty.clone(), empty);
-    bench_original(case, &mut original);
-    bench_port(case, &mut port);
-    assert!(original == port, "{}: answers differ", case.name);
-    assert!(original.is_telling(), "{}: silence", case.name);
+    run::<original::Original>(job, script, &mut original);
+    run::<port::Port>(job, script, &mut port);
+    assert!(original == port, "{name}: answers differ");
+    assert!(original.is_telling(), "{name}: silence");
+}
+
+/// Requests alone answer little, so what then sounds is compared too.
+fn compare(case: &Case) {
+    compare_job(&case.name, &case.job, &case.script);
+    if let Job::Play(_) = case.job {
+        compare_job(&case.name, &Job::Mono(2048), &case.script);
+    }
 }
 
 /// The least times of both. They take turns, so that what else runs on the machine meets both.

@@ -63,14 +63,6 @@ module _ {A : Type 0} where
   getD-mapFirst f (suc n) zero (x ∷ l) d h k = refl
   getD-mapFirst f (suc n) (suc i) (x ∷ l) d h k = getD-mapFirst f n i l d (omega arith) (omega arith)
 
-after-none : {A : Type 0} (f : A → A) (x : A) → after f 0 x ≡ x
-unfolding after
-after-none f x = refl
-
-after-more : {A : Type 0} (f : A → A) (k : ℕ) (x : A) → after f k (f x) ≡ after f (suc k) x
-unfolding after
-after-more f k x = refl
-
 -- ---- how the fade moves
 
 -- m with other voices, at t

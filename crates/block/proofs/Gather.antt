@@ -142,9 +142,6 @@ module _ (m mixed : Mixer) (len i : ℕ) (d : Voice) {cells samples : List ℤ} 
       let e : min len 256 ≡ len = omega arith in
       map-step (after voiceStep len) mixed m i (r .voice) d inv (b .voice .same ∙ ap (λ (n : ℕ). after voiceStep n (getD (mixed .voices) i d)) e)
 
-  pub turn-few : r .given ≤ 256
-  turn-few = given-few len (getD (mixed .voices) i d) (b .given)
-
   pub turn-summed : {f : ℕ → Voice → ℤ} {gain : ℕ} {sums next : List ℤ} → Summed f len i (m .voices) sums → Added samples gain (r .given) sums next
       → ((k : ℕ) → f k (getD (mixed .voices) i d) ≡ valueOf gain (answerAt k (getD (mixed .voices) i d))) → Summed f len (i + 1) (m .voices) next
   turn-summed s a g = summed-next d l there read (b .given) s a g

@@ -1,0 +1,121 @@
+"""Tries changes to a crate's files in copies of the tree: each is checked over what was checked before it, so that only what the change
+reaches is proved again. A refusal found so is a refusal; that a crate is proved is `rt ci`'s to say."""
+import os
+import re
+import shutil
+import subprocess
+import tempfile
+import threading
+from pathlib import Path
+
+ROOT = Path(__file__).resolve().parent.parent
+WORKERS = int(os.environ.get("RT_JOBS", "2"))
+
+# What the checker says where a proof file no longer fits the code: such a refusal tells nothing of the contract.
+UNFIT = re.compile(r"that can be named from here|but this has type `tie\.Need|expected type `tie\.Need|no argument named|takes no .* argument")
+
+
+class Verdict:
+    """What a check said: `proved`, `refused` on a fact, `unfit` (the proof file does not fit the code), `rejected` before the proof by the
+    compiler, or `unclear`; and its first error."""
+
+    def __init__(self, status, text):
+        errors = [line for line in text.splitlines() if re.search(r"(: error\b|^error|: no proof: )", line)]
+        self.first = errors[0] if errors else ""
+        if status == 0 and re.search(r"^logic=proved", text, re.M):
+            self.kind = "proved"
+        elif status == 1 and re.search(r"^logic=not-proved", text, re.M):
+            self.kind = "unfit" if UNFIT.search(self.first) else "refused"
+        elif status == 1:
+            self.kind = "rejected"
+        else:
+            self.kind = "unclear"
+
+
+class Copy:
+    """A copy of the tree with what `rt check` has proved in it."""
+
+    def __init__(self, folder):
+        self.root = Path(folder)
+        shutil.copytree(ROOT / "crates", self.root / "crates")
+        shutil.copy(ROOT / "crates.txt", self.root)
+        for part in ("rlib", "stamp"):
+            shutil.copytree(ROOT / "target" / part, self.root / "target" / part)
+        self.ready = set()
+
+    def dev(self, crate):
+        run = subprocess.run(["rt", "dev", crate], cwd=self.root, capture_output=True)
+        return Verdict(run.returncode, (run.stdout + run.stderr).decode("utf-8", "replace"))
+
+    def checked(self, crate):
+        return self.root / "target" / "inc" / crate, self.root / "target" / "clean" / crate
+
+    def prepare(self, crate):
+        """The crate as it stands, checked once; each trial begins there."""
+        if crate in self.ready:
+            return
+        verdict = self.dev(crate)
+        if verdict.kind != "proved":
+            raise SystemExit(f"{crate} as it stands is not proved: {verdict.first}")
+        inc, clean = self.checked(crate)
+        clean.parent.mkdir(parents=True, exist_ok=True)
+        inc.rename(clean)
+        self.ready.add(crate)
+
+    def attempt(self, crate, files):
+        """The verdict on the crate with these files (paths below the crate, texts)."""
+        self.prepare(crate)
+        inc, clean = self.checked(crate)
+        shutil.rmtree(inc, ignore_errors=True)
+        subprocess.run(["cp", "-a", clean, inc], check=True)
+        kept = {}
+        try:
+            for name, text in files.items():
+                path = self.root / "crates" / crate / name
+                kept[path] = path.read_bytes()
+                path.write_bytes(text.encode())
+            return self.dev(crate)
+        finally:
+            for path, text in kept.items():
+                path.write_bytes(text)
+
+
+def run_all(trials, report):
+    """Tries (crate, label, files) one after another, each crate's together, and hands (crate, label, verdict) to report."""
+    groups = {}
+    for crate, label, files in trials:
+        groups.setdefault(crate, []).append((label, files))
+    # large groups in parts, so that the workers end at about the same time
+    parts = [(crate, group[at:at + 40]) for crate, group in groups.items() for at in range(0, len(group), 40)]
+    lock = threading.Lock()
+
+    def work(folder):
+        copy = Copy(folder)
+        while True:
+            with lock:
+                if not parts:
+                    return
+                crate, group = parts.pop(0)
+            for label, files in group:
+                verdict = copy.attempt(crate, files)
+                with lock:
+                    report(crate, label, verdict)
+
+    with tempfile.TemporaryDirectory() as room:
+        failed = []
+
+        def guarded(folder):
+            try:
+                work(folder)
+            except BaseException as fault:  # a worker that fails ends the run
+                failed.append(fault)
+                with lock:
+                    parts.clear()
+
+        workers = [threading.Thread(target=guarded, args=(f"{room}/{k}",)) for k in range(WORKERS)]
+        for worker in workers:
+            worker.start()
+        for worker in workers:
+            worker.join()
+        if failed:
+            raise SystemExit(str(failed[0]))

@@ -20,6 +20,7 @@ class Verdict:
     compiler, or `unclear`; and its first error."""
 
     def __init__(self, status, text):
+        self.text = text
         errors = [line for line in text.splitlines() if re.search(r"(: error\b|^error|: no proof: )", line)]
         self.first = errors[0] if errors else ""
         if status == 0 and re.search(r"^logic=proved", text, re.M):
@@ -30,6 +31,18 @@ class Verdict:
             self.kind = "rejected"
         else:
             self.kind = "unclear"
+
+    def of(self, function):
+        """The verdict on one function, a path as `output::SigmaDelta::shape`."""
+        line = re.search(rf"^fn {re.escape(function)}: (.*)$", self.text, re.M)
+        if not line or "it calls" in line.group(1):
+            return "unclear", ""
+        if line.group(1).startswith("proved"):
+            return "proved", ""
+        place = "proofs/" + "/".join(function.split("::")[1:]) + "/Proof.antt"
+        error = re.search(rf"^\S*/{re.escape(place)}:\S*: error: .*$", self.text, re.M)
+        first = error.group(0) if error else line.group(0)
+        return ("unfit" if UNFIT.search(first) else "refused"), first
 
 
 class Copy:

@@ -2,9 +2,10 @@
 # make test          all that the gate runs
 # make differential  the long comparison with the Rust original
 # make edits         the must-fail edits that the gate leaves out
+# make pictures      docs/pictures, drawn anew from the program's answers
 # make bench         the comparison with it in speed (docs/SPEED.md); it takes minutes and belongs to no gate
 
-.PHONY: main test differential bench edits oracle-tests record
+.PHONY: main test differential bench edits pictures oracle-tests record
 
 main:
 	rt check
@@ -23,6 +24,10 @@ bench:
 
 edits:
 	tools/edits
+
+pictures:
+	rt check replay
+	tools/pictures
 
 oracle-tests:
 	cargo test --release --offline --locked --quiet --manifest-path oracle/Cargo.toml --target-dir oracle/target

@@ -1,16 +1,13 @@
 -- Many requests, one after another: what they give, and what a block of them stores. Assumes nothing.
-use Prim.Native.Nat.{ℕ, zero, suc, _+_, _≤_}
-use native.Mathlib.Nat.{zero-add}
-use native.Mathlib.Omega.{arith}
-use mathlib.Core.Path.{_≡_, refl, sym, ap, _∙_}
+use Prim.Native.Nat.{ℕ, zero, suc, _≤_}
+use mathlib.Core.Path.{_≡_, refl, ap, _∙_}
 use mathlib.Core.Bool.{Bool, true, false, cond}
-use mathlib.Core.List.{List, [], _∷_, _++_, map}
+use mathlib.Core.List.{List, [], _∷_, map}
 use lib.IntN.{ℤ}
-use lib.ListN.{length, set, drop, replicate}
-use lib.Seq.{sets, sets-eq}
+use lib.ListN.{length, replicate}
+use lib.Seq.{sets}
 use Rattle.laws.specs.Runs.{after, given}
-use Rattle.laws.proofs.Runs.{after-parts, given-parts}
-use Rattle.laws.proofs.Lists.{sets-append}
+use Rattle.laws.proofs.Stores.{length-cells, sets-front}
 use Rattle.fixed.specs.Answers.{heard, Stops, Filled}
 use Rattle.fixed.specs.declared.Given.{Given}
 use Rattle.fixed.specs.declared.Given.the-variants as G
@@ -62,11 +59,6 @@ fm-run (suc n) v e =
 pub fm-heard : (n : ℕ) (v : FmVoice) → v .active ≡ true → heard (fmRun n v) ≡ fmSamples n v
 fm-heard n v e = ap heard (fm-run n v e) ∙ heard-samples (fmSamples n v)
 
-pub length-samples : (n : ℕ) (v : FmVoice) → length (fmSamples n v) ≡ n
-unfolding given
-length-samples zero v = refl
-length-samples (suc n) v = ap suc (length-samples n (advancedFm v))
-
 -- ---- an inactive one
 next-inactive : (v : FmVoice) → v .active ≡ false → nextFm v ≡ v
 unfolding steppedFm
@@ -115,38 +107,13 @@ fm-active zero v = refl
 fm-active (suc n) v = fm-active n (nextFm v) ∙ active-kept v
 
 -- ---- what a block stores
-one-after : (v : FmVoice) → after advancedFm 1 v ≡ advancedFm v
-unfolding after
-one-after v = refl
-
-one-sample : (v : FmVoice) → fmSamples 1 v ≡ fmSample v ∷ []
-unfolding given
-one-sample v = refl
-
--- n samples from v, stored from the front on
-pub record Stored (v : FmVoice) (before : List ℤ) (n : ℕ) (r : FmVoice) (cells : List ℤ) : Type 0 where
-  pub state : r ≡ after advancedFm n v
-  pub stored : cells ≡ sets before 0 (fmSamples n v)
-
-pub stored-none : (v : FmVoice) (before : List ℤ) → Stored v before 0 v before
-unfolding after given
-stored-none v before = record { state = refl; stored = refl }
-
-pub stored-one : {v : FmVoice} {before : List ℤ} {n : ℕ} {r : FmVoice} {cells : List ℤ} → Stored v before n r cells →
-    Stored v before (n + 1) (advancedFm r) (set cells n (fmSample r))
-stored-one {v} {before} {n} {r} {cells} w =
-    record {
-      state = rw (after-parts advancedFm n 1 v, ← w .state, one-after r);
-      stored = rw (given-parts advancedFm (λ (v : FmVoice). fmSample v ∷ []) n 1 v, ← w .state, one-sample r, ← sets-append before 0 (fmSamples n v) (fmSample r ∷ []), ← w .stored, zero-add, length-samples n v);
-    }
-
 module _ (n : ℕ) (v : FmVoice) (before : List ℤ) where
   pub filled-active : v .active ≡ true → n ≤ length before → {cells : List ℤ} → cells ≡ sets before 0 (fmSamples n v) → Filled (fmRun n v) before n cells
   filled-active e h s =
-      let l : length (fmSamples n v) ≡ n = length-samples n v in
+      let l : length (fmSamples n v) ≡ n = length-cells advancedFm fmSample n v in
       record {
         count = rw (fm-heard n v e, l);
-        taken = rw (fm-heard n v e, l) (s ∙ sets-eq (fmSamples n v) before 0 (omega arith) ∙ rw (zero-add, l));
+        taken = rw (fm-heard n v e, l) (s ∙ sets-front before (fmSamples n v) n l h);
       }
 
   pub filled-silent : v .active ≡ false → Filled (fmRun n v) before 0 before

@@ -10,6 +10,7 @@
 --     Lists     runs of stores: sets-append, sets-last; loops over the first n: drop-take-cons, drop-take-end, mapFirst-step, length-mapFirst,
 --               drop-mapFirst, take-mapFirst, mapFirst-same; getD-any; what holds of each: all-set, all-get, all-mapFirst, all-map, all-imp, all-take, all-replicate
 --     Runs      steps in two parts: after-parts, given-parts
+--     Stores    steps that give a cell each, stored as they come: Wrote, wrote-none, wrote-one, wrote-more, front-one, length-cells; held-one, sets-front
 --     F32       float tests as facts about numbers: or-le, nor-lt, le-or, or-ge, nor-gt; cut quotients: cut-ge, cut-lt;
 --               literals: zero-is, one-is
 --     Rounding  what rounding gives: nonNeg, not-below-zero, round-nonNeg, round-up, round-down; a float is what its own fraction rounds to: own
@@ -21,5 +22,6 @@ pub mod Made
 pub mod Finite
 pub mod Lists
 pub mod Runs
+pub mod Stores
 pub mod F32
 pub mod Rounding

@@ -15,7 +15,8 @@ use Rattle.fixed.specs.declared.Given.{Given}
 use Rattle.fixed.specs.declared.Given.the-variants as G
 use Rattle.tone.specs.Blocks.{Waved, lessBy}
 use Rattle.tone.specs.Duration.{forever, lessOne}
-use Rattle.tone.proofs.Loops.{waves, length-waves, waves-front}
+use Rattle.laws.proofs.Stores.{length-cells, sets-front}
+use Rattle.tone.proofs.Loops.{waves}
 
 -- ---- the count
 less-finite : (left n : ℕ) → left < forever → lessBy left n ≡ left - n
@@ -164,14 +165,14 @@ module _ {P S : Type 0} {move : P → P} {wave : P → ℤ} {at : P → ℕ → 
         → count ≡ min left n → rest ≡ lessBy left count → Waved move wave count p cells next filled
         → Block step gives s n cells (at next rest (eqb count n)) count filled
     block {cells = cells} e l h k r w =
-        let d : length (waves move wave (min left n) p) ≡ min left n = length-waves move wave (min left n) p in
+        let d : length (waves move wave (min left n) p) ≡ min left n = length-cells move wave (min left n) p in
         let v = rw k at w in
         record {
           same = rw (e, v .moved, r, k) (sym (block-after l));
           given =
               record {
                 count = rw (e, block-heard, k, d);
-                taken = rw (e, block-heard, d) (v .taken ∙ waves-front move wave (min left n) p cells (omega arith));
+                taken = rw (e, block-heard, d) (v .taken ∙ sets-front cells (waves move wave (min left n) p) (min left n) d (omega arith));
               };
         }
 

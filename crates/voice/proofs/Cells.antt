@@ -13,7 +13,7 @@ use Rattle.laws.proofs.Made.{made}
 use Rattle.envelope.specs.declared.Adsr.{Adsr}
 use Rattle.envelope.specs.Adsrs as A
 use Rattle.envelope.specs.Blocks.{levelAfter}
-use Rattle.envelope.proofs.Ticks.{length-cells}
+use Rattle.laws.proofs.Stores.{length-cells}
 use Rattle.fixed.specs.declared.Given.{Given}
 use Rattle.fixed.specs.declared.Given.the-variants as G
 use Rattle.fixed.specs.Fixed.{gained}

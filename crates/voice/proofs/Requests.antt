@@ -9,7 +9,7 @@ use borrow.Author.Tests.{leb-true, leb-false}
 use lib.IntN.{ℤ}
 use lib.ListN.{length}
 use Rattle.laws.specs.Runs.{after, given}
-use Rattle.envelope.proofs.Ticks.{length-cells}
+use Rattle.laws.proofs.Stores.{length-cells}
 use Rattle.fixed.specs.declared.Given.{Given}
 use Rattle.fixed.specs.declared.Given.the-variants as G
 use Rattle.fixed.specs.Answers.{heard, Stops, Filled}

@@ -11,7 +11,7 @@ use Rattle.laws.specs.Runs.{given}
 use Rattle.envelope.specs.declared.Adsr.{Adsr}
 use Rattle.envelope.specs.Adsrs.{ticked}
 use Rattle.envelope.specs.Blocks.{levelAfter}
-use Rattle.envelope.proofs.Ticks.{length-cells, sets-front}
+use Rattle.laws.proofs.Stores.{length-cells, sets-front}
 use Rattle.envelope.proofs.Adsr.levels.Statement.{statement}
 use Rattle.envelope.proofs.Adsr.levels.Tie as tie
 

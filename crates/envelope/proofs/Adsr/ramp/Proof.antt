@@ -5,7 +5,7 @@ use Prim.Native.Nat.{_+_, _-_, _≤_}
 use native.Mathlib.Omega.{arith}
 use Rattle.envelope.specs.declared.Adsr.{Adsr}
 use Rattle.envelope.specs.Adsrs.{inPhase, advancedToward}
-use Rattle.envelope.proofs.Ticks.{Wrote, wrote-none, wrote-one}
+use Rattle.laws.proofs.Stores.{Wrote, wrote-none, wrote-one}
 use Rattle.envelope.proofs.Adsr.ramp.Statement.{statement}
 use Rattle.envelope.proofs.Adsr.ramp.Tie as tie
 

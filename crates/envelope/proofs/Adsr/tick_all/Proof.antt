@@ -5,7 +5,7 @@ use native.Mathlib.Nat.{zero-add}
 use native.Mathlib.Omega.{arith}
 use Rattle.envelope.specs.declared.Adsr.{Adsr}
 use Rattle.envelope.specs.Adsrs.{Valid, ticked}
-use Rattle.envelope.proofs.Ticks.{Wrote, wrote-none, wrote-one, wrote-more}
+use Rattle.laws.proofs.Stores.{Wrote, wrote-none, wrote-one, wrote-more}
 use Rattle.envelope.proofs.Adsr.tick_all.Statement.{statement}
 use Rattle.envelope.proofs.Adsr.tick_all.Tie as tie
 

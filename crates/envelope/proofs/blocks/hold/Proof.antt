@@ -4,7 +4,7 @@ use Prim.Native.Nat.{_-_, _≤_}
 use native.Mathlib.Omega.{arith}
 use lib.ListN.{replicate}
 use lib.Seq.{sets}
-use Rattle.envelope.proofs.Ticks.{held-one}
+use Rattle.laws.proofs.Stores.{held-one}
 use Rattle.envelope.proofs.blocks.hold.Statement.{statement}
 use Rattle.envelope.proofs.blocks.hold.Tie as tie
 

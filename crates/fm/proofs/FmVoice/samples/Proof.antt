@@ -6,10 +6,10 @@ use Prim.Native.Nat.{ℕ, _-_, _≤_}
 use native.Mathlib.Omega.{arith}
 use mir.Syntax.{w8}
 use mir.ValLaws.{toZ-ofZ}
+use Rattle.laws.proofs.Stores.{Wrote, wrote-none, front-one}
 use Rattle.fm.specs.declared.FmVoice.{FmVoice}
-use Rattle.fm.specs.Fm.{fmSample}
+use Rattle.fm.specs.Fm.{fmSample, advancedFm}
 use Rattle.fm.proofs.Table.{sine-table}
-use Rattle.fm.proofs.Requests.{Stored, stored-none, stored-one}
 use Rattle.fm.proofs.FmVoice.samples.Statement.{statement}
 use Rattle.fm.proofs.FmVoice.samples.Tie as tie
 
@@ -26,13 +26,13 @@ atPhases v carrier modulator =
 
 abbrev Inv-loop : tie.InvT-loop
 Inv-loop self n out₀ table carrier₀ modulator₀ k₀ out carrier modulator k =
-    (k ≤ n) × Stored self out₀ k (atPhases self carrier modulator) out
+    (k ≤ n) × Wrote advancedFm fmSample self out₀ 0 k (atPhases self carrier modulator) out
 
 abbrev μ-loop : tie.MeasureT-loop
 μ-loop self n out₀ table carrier₀ modulator₀ k₀ out carrier modulator k = n - k
 
 loop-holds : tie.Need-loop-holds Inv-loop μ-loop
-loop-holds c = (omega arith, stored-none _ _)
+loop-holds c = (omega arith, wrote-none _ _)
 
 sample-at-requires : tie.Need-sample-at-requires Inv-loop μ-loop
 sample-at-requires c κs = sine-table
@@ -51,7 +51,7 @@ unfolding fmSample
 loop-again c =
     let a = c .before .before in
     let s = a .before .before .before in
-    (omega arith, rw (c .wrapping-add-u322 .ensures, c .before .wrapping-add-u32 .ensures, toZ-ofZ w8 (a .sample-at .result) (record { sfits = a .sample-at .ok }), a .sample-at .ensures) (stored-one (s .loop .inv .1)))
+    (omega arith, rw (c .wrapping-add-u322 .ensures, c .before .wrapping-add-u32 .ensures, toZ-ofZ w8 (a .sample-at .result) (record { sfits = a .sample-at .ok }), a .sample-at .ensures) (front-one _ _ (s .loop .inv .1)))
 
 returns : tie.Need-returns Inv-loop μ-loop
 returns c =

@@ -6,8 +6,6 @@ use output::DutyMode;
 
 pub const DEFAULT_SAMPLE_RATE_HZ: u32 = 16_000;
 
-pub const DEFAULT_PWM_CARRIER_HZ: u32 = 32_000;
-
 pub const DEFAULT_PWM_PERIOD: u16 = 1000;
 
 pub struct AudioConfig {

@@ -1,10 +1,18 @@
 -- What a step of the parts promises, it promises of the box. Assumes nothing.
+use Prim.Native.Nat.{ℕ}
 use mathlib.Core.Path.{_≡_, ap, _∙_}
+use mathlib.Core.List.{List}
+use lib.IntN.{ℤ, pos}
+use lib.ListN.{getD}
+use Rattle.laws.specs.Runs.{after, given}
 use Rattle.laws.specs.Made.{Made}
 use Rattle.frame.specs.Frames as F
 use Rattle.frame.specs.declared.MonoFrame.{MonoFrame}
 use Rattle.frame.specs.declared.DutyFrame.{DutyFrame}
 use Rattle.frame.specs.declared.StereoFrame.{StereoFrame}
+use Rattle.frame.specs.Runs.{monoStep, dutyStep, duties, stereoStep}
+use Rattle.buffers.specs.Buffers.{Fills, toI8, once, sides}
+use Rattle.buffers.specs.declared.Filled.{Filled}
 use Rattle.mixer.specs.Mixers.{Valid, ValidChanged}
 use Rattle.mixer.specs.declared.Mixer.{Mixer}
 use Rattle.mixer.specs.declared.Changed.{Changed}
@@ -36,3 +44,20 @@ made-sides h = record { same = ap sidesBox (h .same); valid = record { inside = 
 -- each side × 256
 pub made-wide : {x s : EngineSides} {r : EngineWideSides} → Made ValidSides x s → r ≡ wideSides s → Made ValidWideSides (wideSides x) r
 made-wide {x} {s} {r} h e = record { same = e ∙ ap wideSides (h .same); valid = rw e (h .valid) }
+
+-- ---- a buffer of one frame is that frame
+module _ {m : Mixer} {r : Filled} {w : ℕ} where
+  pub mono-one : {was is : List ℤ} → Fills monoStep (once toI8) 1 w m was r is
+      → Made F.ValidMono (F.monoFrame m) (record { mixer = r .mixer; pcm = getD is 0 (pos 0) })
+  unfolding after given
+  mono-one h = record { same = rw (h .content, h .mixer .same); valid = h .mixer .valid }
+
+  pub duty-one : {was is : List ℕ} → Fills dutyStep duties 1 w m was r is
+      → Made F.ValidDuty (F.dutyFrame m) (record { mixer = r .mixer; duty = getD is 0 0 })
+  unfolding after given
+  duty-one h = record { same = rw (h .content, h .mixer .same); valid = h .mixer .valid }
+
+  pub stereo-one : {was is : List ℤ} → Fills stereoStep (sides toI8) 1 w m was r is
+      → Made F.ValidStereo (F.stereoFrame m) (record { mixer = r .mixer; left = getD is 0 (pos 0); right = getD is 1 (pos 0) })
+  unfolding after given
+  stereo-one h = record { same = rw (h .content, h .mixer .same); valid = h .mixer .valid }

@@ -1,4 +1,4 @@
-// The calls of one frame.
+// The calls of one frame: each is its buffer call on one cell, or one pair.
 ghost use Rattle.laws.specs.Made.{Made};
 ghost use Rattle.frame.specs.Frames.{monoFrame, dutyFrame, stereoFrame};
 ghost use Rattle.engine.specs.Engines.{ValidEngine};
@@ -35,12 +35,12 @@ impl AudioEngine {
         requires { ⌜ ValidEngine self ⌝ }
         ensures { λ r. ⌜ Made ValidSample (sampleBox (monoFrame (self .state))) r ⌝ }
     {
-        let m = self.state;
-        let f = frame::mono_frame(m);
-        let state = f.mixer;
+        let mut cell = [0i8; 1];
+        let f = self.fill_pcm_i8_buffer(&mut cell);
+        let engine = f.engine;
         EngineSample {
-            engine: AudioEngine { state },
-            pcm: f.pcm,
+            engine,
+            pcm: cell[0],
         }
     }
 
@@ -48,12 +48,12 @@ impl AudioEngine {
         requires { ⌜ ValidEngine self ⌝ }
         ensures { λ r. ⌜ Made ValidDuty (dutyBox (dutyFrame (self .state))) r ⌝ }
     {
-        let m = self.state;
-        let d = frame::duty_frame(m);
-        let state = d.mixer;
+        let mut cell = [0u16; 1];
+        let f = self.fill_duty_buffer(&mut cell);
+        let engine = f.engine;
         EngineDuty {
-            engine: AudioEngine { state },
-            duty: d.duty,
+            engine,
+            duty: cell[0],
         }
     }
 
@@ -69,13 +69,13 @@ impl AudioEngine {
         requires { ⌜ ValidEngine self ⌝ }
         ensures { λ r. ⌜ Made ValidSides (sidesBox (stereoFrame (self .state))) r ⌝ }
     {
-        let m = self.state;
-        let s = frame::stereo_frame(m);
-        let state = s.mixer;
+        let mut cells = [0i8; 2];
+        let f = self.fill_stereo_panned_i8_buffer(&mut cells);
+        let engine = f.engine;
         EngineSides {
-            engine: AudioEngine { state },
-            left: s.left,
-            right: s.right,
+            engine,
+            left: cells[0],
+            right: cells[1],
         }
     }
 

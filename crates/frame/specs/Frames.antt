@@ -37,15 +37,6 @@ leveled m sum = gained (limited sum) (m .config .«master_gain_q8»)
 
 -- ---- mono
 
--- what an answer adds to the sum, and to the number of samples
-abbrev pub amount : Given → ℤ
-amount (G.Sample s) = s
-amount G.None = pos 0
-
-abbrev pub counted : Given → ℕ
-counted (G.Sample s) = 1
-counted G.None = 0
-
 -- the sum of the samples given, and how many were
 unfoldable pub total : List Given → ℤ
 total [] = pos 0

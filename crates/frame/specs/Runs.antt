@@ -6,7 +6,7 @@ use lib.IntN.{ℤ}
 use Rattle.mixer.specs.declared.Mixer.{Mixer}
 use Rattle.frame.specs.Frames.{monoFrame, dutyFrame, stereoFrame}
 
--- a mono frame gives one sample, a stereo frame left and right
+-- a mono frame gives one sample
 abbrev pub monoStep : Mixer → Mixer
 monoStep m = monoFrame m .mixer
 
@@ -21,9 +21,6 @@ duties m = dutyFrame m .duty ∷ []
 
 abbrev pub stereoStep : Mixer → Mixer
 stereoStep m = stereoFrame m .mixer
-
-abbrev pub stereoSamples : Mixer → List ℤ
-stereoSamples m = stereoFrame m .left ∷ stereoFrame m .right ∷ []
 
 -- frames of both kinds in any order: true for stereo
 unfoldable pub framesAfter : List Bool → Mixer → Mixer

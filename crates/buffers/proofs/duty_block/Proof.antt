@@ -18,7 +18,7 @@ use Rattle.output.specs.declared.PwmMapper.{PwmMapper}
 use Rattle.frame.specs.Frames.{withMapper}
 use Rattle.frame.specs.Runs.{monoStep, dutyStep, duties}
 use Rattle.frame.proofs.Laws.{valid-mapper}
-use Rattle.frame.proofs.Periods.{accepted, period-is, not-refused}
+use Rattle.buffers.proofs.Periods.{accepted, period-is, not-refused}
 use Rattle.buffers.specs.Buffers.{mappedOver, dutiesOver}
 use Rattle.buffers.proofs.Fill.{pcm, row, block-cells, block-long}
 use Rattle.buffers.proofs.Duties.{run-keeps, duty-after, duty-given}

@@ -1,6 +1,6 @@
 // The buffer calls: blocks of frames, each cell scaled as the buffer's kind asks.
 ghost use mathlib.Core.Path.{_≡_};
-ghost use Prim.Native.Nat.{_+_, _≤_, min};
+ghost use Prim.Native.Nat.{_+_, _≤_};
 ghost use lib.ListN.{length};
 ghost use lib.Seq.{sets};
 ghost use Rattle.laws.specs.Made.{Made};
@@ -14,6 +14,7 @@ use block::stereo_block;
 use mixer::Mixer;
 use output::Period;
 use output::PeriodRead;
+use tone::block_len;
 
 mod scales;
 
@@ -21,13 +22,6 @@ mod scales;
 pub struct Filled {
     pub mixer: Mixer,
     pub filled: usize,
-}
-
-// The frames of the next block.
-fn block_len(left: usize) -> usize
-    ensures { λ r. ⌜ r ≡ min left 256 ⌝ }
-{
-    if left < 256 { left } else { 256 }
 }
 
 pub fn fill_pcm_i8_buffer(m: Mixer, out: &mut [i8]) -> Filled

@@ -5,5 +5,5 @@
 --     Done       an answer laid from place 0 on is the answer
 mod Opening
 mod Lending
-mod Calling
+pub mod Calling
 mod Done

@@ -219,7 +219,7 @@ fn call_answer(l: &[u8], s: Session, cells: &[u8], out: &mut [u8; 262144]) -> Se
     }
 }
 
-fn fill_allowed(l: &[u8]) -> bool
+pub fn fill_allowed(l: &[u8]) -> bool
     ensures { λ r. ⌜ r ≡ fillAllowed (now (l .entry)) ⌝ }
 {
     l.len() == 6 && wide_at(l, 1) <= 2048
@@ -273,7 +273,7 @@ fn is_call(code: u8) -> bool
     }
 }
 
-fn is_fill(code: u8) -> bool
+pub fn is_fill(code: u8) -> bool
     ensures { λ r. ⌜ r ≡ isFill code ⌝ }
 {
     match code {

@@ -1,0 +1,3 @@
+-- What the proofs here share.
+--     Pairs    frames of two cells each, at the front of a buffer
+mod Pairs

@@ -11,6 +11,8 @@ main:
 	rt check
 	target/bin/replay < docs/example.script
 	target/bin/framelist < crates/framelist/stdin
+	target/bin/render target/day.wav docs/day.script | tee target/day.txt
+	tools/wavcheck target/day.wav target/day.txt
 
 test:
 	tools/gate

@@ -1,0 +1,132 @@
+// render OUT.wav [SCRIPT]: runs a replay script, writes what it sounds like to OUT.wav and a short account to standard output. What a
+// line does is `session`'s, what it sounds like is `sounds`', and how a file is laid out is `wav`'s.
+mod account;
+mod file;
+mod problems;
+mod steps;
+mod words;
+
+ghost use Rattle.session.specs.Sessions.{ValidSession};
+use file::SoundFile;
+use file::flushed;
+use file::write_header;
+use session::Session;
+use steps::Place;
+use steps::Run;
+use steps::rate_of;
+use steps::read_some;
+use words::Clock;
+use words::count;
+use words::say;
+use words::seconds;
+
+// The script's descriptor, or -1 where it cannot be opened: the second argument's, or else standard input.
+fn script() -> i32 {
+    if os::arg_count() < 3 {
+        return libc::STDIN_FILENO;
+    }
+    let mut name = io::buffer();
+    let n = os::arg(2, &mut name);
+    let fd = os::open_read(&name[..n]);
+    if fd < 0 {
+        os::fail(&name[..n]);
+    }
+    fd
+}
+
+// The account's last line.
+fn total(c: Clock) {
+    seconds(c);
+    say(b" of sound at ");
+    count(c.rate as u64);
+    say(b" Hz, ");
+    count(4 * (c.frames as u64));
+    say(b" bytes of samples\n");
+}
+
+// Writes what is held back and the header, and says how much sound there is. A file without frames has the rate that the engine has at
+// the end.
+fn finish(path: &[u8], f: SoundFile, rate: u32, kept: &[u8; 65536]) {
+    let g = flushed(f, kept);
+    let c = g.clock;
+    let clock = Clock {
+        rate: if c.frames == 0 { rate } else { c.rate },
+        ..c
+    };
+    problems::progress_ended(clock);
+    if write_header(g.fd, clock) && g.is_written {
+        total(clock);
+    } else {
+        os::fail(path);
+    }
+}
+
+// A proved loop has to end, and nothing says that the input does: the turns are counted down from a number that no run uses up.
+fn run_all(path: &[u8], input: i32, fd: i32) {
+    let mut line = [0u8; 8195];
+    let mut lent = [0u8; 4096];
+    let mut out = [0u8; 262144];
+    let mut cells = [0i16; 4096];
+    let mut kept = [0u8; 65536];
+    let clock = Clock { frames: 0, rate: 0 };
+    let place = Place {
+        line: 0,
+        number: 0,
+        more: true,
+    };
+    let file = SoundFile {
+        fd,
+        clock,
+        held: 0,
+        is_written: true,
+    };
+    let mut r = Run {
+        place,
+        file,
+        session: Session::new(),
+    };
+    let mut turns = u64::MAX;
+    while turns > 0 && r.place.more {
+        r = read_some(
+            r,
+            input,
+            &mut line,
+            &mut lent,
+            &mut out,
+            &mut cells,
+            &mut kept,
+        );
+        turns -= 1;
+    }
+    let f = r.file;
+    finish(path, f, rate_of(r.session), &kept);
+}
+
+// The header goes first, with no frames, so that the cells stand behind it.
+fn render_to(path: &[u8]) {
+    let input = script();
+    if input < 0 {
+        return;
+    }
+    let fd = os::open_overwrite(path);
+    if fd < 0 {
+        os::fail(path);
+        return;
+    }
+    let h = wav::header(0, 0);
+    if io::write_all(fd, &h.bytes) {
+        run_all(path, input, fd);
+    } else {
+        os::fail(path);
+    }
+}
+
+fn main() {
+    let mut name = io::buffer();
+    let n = os::arg(1, &mut name);
+    if n == 0 || os::arg_count() > 3 {
+        problems::usage();
+        return;
+    }
+    render_to(&name[..n]);
+}

@@ -1,0 +1,76 @@
+// What goes to standard error: what is refused, and how far a long run is.
+use crate::file::Room;
+use crate::words::Clock;
+use libc::STDERR_FILENO;
+
+fn note(words: &[u8]) {
+    io::write_all(STDERR_FILENO, words);
+}
+
+pub fn usage() {
+    note(b"usage: render OUT.wav [SCRIPT]\n");
+}
+
+fn at_line(number: u64, words: &[u8]) {
+    note(b"render: line ");
+    io::print_decimal(STDERR_FILENO, number);
+    note(b": ");
+    note(words);
+}
+
+pub fn bad_line(number: u64) {
+    at_line(
+        number,
+        b"no record, or one that needs an open engine; the sound up to here is kept\n",
+    );
+}
+
+// Says why frames cannot go on to the file, and answers whether they can.
+pub fn has_room(r: Room, number: u64) -> bool {
+    match r {
+        Room::Fits => true,
+        Room::NoRate => {
+            at_line(number, b"frames at rate 0; the sound up to here is kept\n");
+            false
+        }
+        Room::OtherRate => {
+            at_line(
+                number,
+                b"a file has one rate, and the rate changed after its first frame; the sound up to here is kept\n",
+            );
+            false
+        }
+        Room::TooLong => {
+            at_line(
+                number,
+                b"the file would pass 4 GiB; the sound up to here is kept\n",
+            );
+            false
+        }
+    }
+}
+
+// How many times 10 s have passed.
+fn tens(c: Clock) -> u64 {
+    if c.rate == 0 {
+        return 0;
+    }
+    (c.frames as u64) / (10 * (c.rate as u64))
+}
+
+// One line that is written over at each further 10 s.
+pub fn progress(before: Clock, after: Clock) {
+    let n = tens(after);
+    if n > tens(before) {
+        note(b"\r");
+        io::print_decimal(STDERR_FILENO, n);
+        note(b"0 s of sound");
+    }
+}
+
+// The end of that line, where there is one.
+pub fn progress_ended(c: Clock) {
+    if tens(c) > 0 {
+        note(b"\n");
+    }
+}

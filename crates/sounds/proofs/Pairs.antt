@@ -18,7 +18,7 @@ module _ (step : Mixer → Mixer) (left right : Mixer → ℤ) where
   abbrev gives : Mixer → List ℤ
   gives m = left m ∷ right m ∷ []
 
-  pairs-length : (n : ℕ) (m : Mixer) → length (given step gives n m) ≡ 2 * n
+  pub pairs-length : (n : ℕ) (m : Mixer) → length (given step gives n m) ≡ 2 * n
   unfolding given
   pairs-length zero m = refl
   pairs-length (suc n) m = omega (arith, pairs-length n (step m))

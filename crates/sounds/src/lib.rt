@@ -19,7 +19,7 @@ fn is_stereo(code: u8) -> bool
 }
 
 fn filled_frames(code: u8, l: &[u8]) -> usize
-    ensures { λ r. ⌜ (r ≡ filledFrames code (now (l .entry))) × (r ≤ 2048) ⌝ }
+    ensures { λ r. ⌜ r ≡ filledFrames code (now (l .entry)) ⌝ }
 {
     if !session::fill_allowed(l) {
         return 0;
@@ -38,7 +38,7 @@ fn is_one_frame(code: u8, l: &[u8]) -> bool
 }
 
 fn frames_for(code: u8, l: &[u8]) -> usize
-    ensures { λ r. ⌜ (r ≡ framesFor code (now (l .entry))) × (r ≤ 2048) ⌝ }
+    ensures { λ r. ⌜ r ≡ framesFor code (now (l .entry)) ⌝ }
 {
     if session::is_fill(code) {
         return filled_frames(code, l);
@@ -46,9 +46,9 @@ fn frames_for(code: u8, l: &[u8]) -> usize
     if is_one_frame(code, l) { 1 } else { 0 }
 }
 
-// How many frames the line makes: what a buffer of 4,096 cells can hold.
+// How many frames the line makes.
 fn frames(l: &[u8], is_open: bool) -> usize
-    ensures { λ r. ⌜ (r ≡ framesOf «is_open» (now (l .entry))) × (r ≤ 2048) ⌝ }
+    ensures { λ r. ⌜ r ≡ framesOf «is_open» (now (l .entry)) ⌝ }
 {
     if !is_open {
         return 0;

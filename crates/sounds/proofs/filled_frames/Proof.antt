@@ -1,12 +1,9 @@
--- `sounds::filled_frames` meets its contract: the tests are the definition's, and a fill that is allowed has few cells.
+-- `sounds::filled_frames` meets its contract: the tests are the definition's.
 use borrow.Author.Needs.{needs}
 use borrow.Author.Tests.{not-true, not-false, le-leb, lt-leb}
 use mathlib.Core.Path.{_≡_, sym, _∙_}
 use mathlib.Core.Bool.{true}
-use Prim.Native.Nat.{_≤_}
-use native.Mathlib.Omega.{arith}
 use Rattle.session.specs.Sessions.{fillAllowed}
-use Rattle.session.proofs.Calling.{few-cells}
 use Rattle.sounds.specs.Sounds.{filledFrames}
 use Rattle.sounds.proofs.filled_frames.Statement.{statement}
 use Rattle.sounds.proofs.filled_frames.Tie as tie
@@ -14,24 +11,17 @@ use Rattle.sounds.proofs.filled_frames.Tie as tie
 allowed : (c : tie.Else1) → fillAllowed (c .before .before .before .args .l .now) ≡ true
 allowed c = sym (c .before .fill-allowed .ensures) ∙ not-false _ (c .if1 .left)
 
-few : (c : tie.After-wide-at) → c .wide-at .result ≤ 2048
-few c = let e = c .before in omega (arith, c .wide-at .ensures, few-cells (e .before .before .before .args .l .now) (allowed e))
-
 returns : tie.Need-returns
 unfolding filledFrames
-returns c = (rw (sym (c .before .fill-allowed .ensures) ∙ not-true _ (c .if1 .taken)), omega arith)
+returns c = rw (sym (c .before .fill-allowed .ensures) ∙ not-true _ (c .if1 .taken))
 
 returns-2 : tie.Need-returns-2
 unfolding filledFrames
-returns-2 c =
-    let w = c .before in
-    (rw (allowed (w .before), le-leb _ _ (c .if2 .taken)) (w .wide-at .ensures), few w)
+returns-2 c = let w = c .before in rw (allowed (w .before), le-leb _ _ (c .if2 .taken)) (w .wide-at .ensures)
 
 returns-3 : tie.Need-returns-3
 unfolding filledFrames
-returns-3 c =
-    let w = c .before in
-    (rw (allowed (w .before), lt-leb _ _ (c .if2 .left), sym (w .wide-at .ensures)), omega (arith, few w))
+returns-3 c = let w = c .before in rw (allowed (w .before), lt-leb _ _ (c .if2 .left), sym (w .wide-at .ensures))
 
 pub filled-frames-spec : {M : Type 1} → statement M
 filled-frames-spec =

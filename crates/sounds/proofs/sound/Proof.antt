@@ -1,9 +1,19 @@
--- `sounds::sound` meets its contract: the kind of frame and their number are the definition's.
+-- `sounds::sound` meets its contract: the kind of frame and their number are the definition's, and few enough for the buffer.
 use borrow.Author.Needs.{needs}
 use mathlib.Core.Path.{sym}
+use Prim.Native.Nat.{_≤_}
+use native.Mathlib.Omega.{arith}
 use Rattle.sounds.specs.Sounds.{soundOf}
+use Rattle.sounds.proofs.Laws.{few-frames}
 use Rattle.sounds.proofs.sound.Statement.{statement}
 use Rattle.sounds.proofs.sound.Tie as tie
+
+put-requires : tie.Need-put-requires
+put-requires c κs =
+    let f = c .before .before .before .before in
+    let s = f .before .before in
+    let few : f .frames .result ≤ 2048 = omega (arith, f .frames .ensures, few-frames (s .args .s .«is_open») (s .args .line .now)) in
+    (s .pre .inside, search needs)
 
 returns : tie.Need-returns
 unfolding soundOf
@@ -11,7 +21,7 @@ returns c =
     let i = c .before .before in
     let b = i .before in
     let f = b .before .before in
-    rw (sym (b .byte-at .ensures), sym (i .is-stereo .ensures), sym (f .frames .ensures .0)) (c .put .ensures)
+    rw (sym (b .byte-at .ensures), sym (i .is-stereo .ensures), sym (f .frames .ensures)) (c .put .ensures)
 
 pub sound-spec : {M : Type 1} → statement M
 sound-spec =
@@ -20,5 +30,5 @@ sound-spec =
     (λ c κs. search needs)
     (λ c κs. search needs)
     (λ c κs. search needs)
-    (λ c κs. search needs)
+    put-requires
     returns)

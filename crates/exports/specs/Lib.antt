@@ -1,2 +1,11 @@
 -- What a reader believes of the calls for other languages.
-pub mod Exports
+--     Told      a value or a refusal, as a number and cells
+--     Leaves    numbers alone
+--     Levels    an envelope alone
+--     Banks     a bank that is set for one call
+--     Plays     an engine that lives for one call
+pub mod Told
+pub mod Leaves
+pub mod Levels
+pub mod Banks
+pub mod Plays

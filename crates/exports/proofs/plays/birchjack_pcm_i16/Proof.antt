@@ -1,0 +1,13 @@
+-- `exports::plays::birchjack_pcm_i16` meets its contract: the engine's buffer call.
+use borrow.Author.Needs.{needs}
+use Rattle.exports.proofs.plays.birchjack_pcm_i16.Statement.{statement}
+use Rattle.exports.proofs.plays.birchjack_pcm_i16.Tie as tie
+
+returns : tie.Need-returns
+returns c =
+    let b = c .before in
+    let f = rw (b .before .before .sound .ensures .same) at (b .fill-pcm-i16-buffer .ensures) in
+    record { count = f .count; content = f .content }
+
+pub birchjack-pcm-i16-spec : {M : Type 1} → statement M
+birchjack-pcm-i16-spec = tie.close (tie.spec (λ c κs. search needs) (λ c κs. search needs) (λ c. search needs) returns)

@@ -1,0 +1,175 @@
+/* Every call of birchjack.h, on document 01's checked examples and on refusals, which leave every cell as it was. */
+#include "birchjack.h"
+
+#include <stdio.h>
+#include <stdlib.h>
+#include <string.h>
+
+static int checks;
+
+#define CHECK(fact)                                                                                                                         \
+    do {                                                                                                                                    \
+        checks++;                                                                                                                           \
+        if (!(fact)) {                                                                                                                      \
+            fprintf(stderr, "%s:%d: not so: %s\n", __FILE__, __LINE__, #fact);                                                              \
+            exit(1);                                                                                                                        \
+        }                                                                                                                                   \
+    } while (0)
+
+/* Ten bytes, an entry of id 7 (sine tone, gain 255, 440 Hz, no end) with a payload of two bytes, and the payload. */
+static const uint8_t bell[28] = {
+    0, 0, 0, 0, 0, 0, 0, 0, 0, 0,                            /* not read */
+    7, 0, 0, 0, 255, 0, 184, 1, 0, 0, 26, 0, 0, 0, 2, 0, /* the entry */
+    1, 2,                                                    /* its payload */
+};
+
+/* A request for the bell with a click envelope, at priority 3. */
+static const uint8_t ring[10] = {0, 7, 0, 2, 0, 40, 0, 0, 10, 3};
+
+static void numbers(void) {
+    CHECK(birchjack_sine(0) == 0 && birchjack_sine(64) == 63 && birchjack_sine(192) == -63 && birchjack_sine(255) == 0);
+    CHECK(birchjack_phase_increment(1000, 8000) == 536870912);
+    CHECK(birchjack_phase_increment(1000, 0) == 0);
+    CHECK(birchjack_gain(127, 255) == 126 && birchjack_gain(-127, 255) == -127);
+    CHECK(birchjack_lerp(-128, 127, 128) == -1);
+    static const uint8_t pans[3][3] = {{0, 255, 0}, {128, 255, 255}, {129, 252, 255}};
+    for (int i = 0; i < 3; i++) {
+        uint8_t sides[2];
+        birchjack_pan_gains(pans[i][0], &sides);
+        CHECK(sides[0] == pans[i][1] && sides[1] == pans[i][2]);
+    }
+}
+
+static void limits(void) {
+    static const int16_t sums[4][2] = {{96, 96}, {97, 96}, {127, 111}, {-128, -112}};
+    int8_t s = 55;
+    for (int i = 0; i < 4; i++) {
+        CHECK(birchjack_limit(sums[i][0], &s) == BIRCHJACK_ACCEPTED && s == sums[i][1]);
+    }
+    s = 55;
+    CHECK(birchjack_limit(2033, &s) == BIRCHJACK_BAD_SUM && s == 55);
+    CHECK(birchjack_limit(-2049, &s) == BIRCHJACK_BAD_SUM && s == 55);
+    CHECK(birchjack_limit(INT32_MIN, &s) == BIRCHJACK_BAD_SUM && s == 55);
+}
+
+static void duties(void) {
+    uint16_t d = 55;
+    CHECK(birchjack_duty_of(127, 1000, &d) == 0 && d == 999);
+    CHECK(birchjack_duty_of(0, 1000, &d) == 0 && d == 500);
+    CHECK(birchjack_duty_of(-128, 1000, &d) == 0 && d == 1);
+    for (int s = -128; s < 128; s++) {
+        CHECK(birchjack_duty_of((int8_t)s, 2, &d) == 0 && d == 1);
+    }
+    d = 55;
+    CHECK(birchjack_duty_of(0, 1, &d) == BIRCHJACK_BAD_PERIOD && d == 55);
+
+    uint8_t step = 55;
+    CHECK(birchjack_fade_step(0, 8000, &step) == 0 && step == 255);
+    CHECK(birchjack_fade_step(10, 8000, &step) == 0 && step == 4);
+    step = 55;
+    CHECK(birchjack_fade_step(10, 65538, &step) == BIRCHJACK_BAD_RATE && step == 55);
+}
+
+static void envelope(void) {
+    static const uint8_t levels[8] = {63, 159, 231, 255, 192, 96, 24, 0};
+    uint8_t held[8], left[4];
+    CHECK(birchjack_envelope(4, 4, 0, 4, 1000, held, 8, left, 4) == 0);
+    CHECK(memcmp(held, levels, 8) == 0 && left[0] == 0 && left[3] == 0);
+    /* let go at the top, it falls in four ticks */
+    CHECK(birchjack_envelope(4, 4, 0, 4, 1000, held, 4, left, 4) == 0);
+    CHECK(memcmp(held, levels, 4) == 0 && memcmp(left, levels + 4, 4) == 0);
+    memset(held, 9, 8);
+    memset(left, 9, 4);
+    CHECK(birchjack_envelope(4, 4, 0, 4, 65538, held, 8, left, 4) == BIRCHJACK_BAD_RATE);
+    CHECK(held[0] == 9 && held[7] == 9 && left[0] == 9 && left[3] == 9);
+}
+
+static void bank(void) {
+    uint32_t entry[8], kept[8], part[2] = {55, 55};
+    static const uint32_t fields[8] = {7, 0, 0, 255, 440, 0, 26, 2};
+    CHECK(birchjack_find(bell, 28, 8000, 1, 7, &entry) == 0 && memcmp(entry, fields, sizeof entry) == 0);
+    memset(entry, 9, sizeof entry);
+    memcpy(kept, entry, sizeof entry);
+    CHECK(birchjack_find(bell, 28, 8000, 1, 8, &entry) == BIRCHJACK_EFFECT_NOT_FOUND);
+    CHECK(birchjack_find(bell, 28, 65538, 1, 7, &entry) == BIRCHJACK_BAD_RATE);
+    CHECK(birchjack_find(bell, 25, 8000, 1, 7, &entry) == BIRCHJACK_TRUNCATED_BANK);
+    uint8_t odd[28];
+    memcpy(odd, bell, 28);
+    odd[12] = 6;
+    CHECK(birchjack_find(odd, 28, 8000, 1, 7, &entry) == BIRCHJACK_INVALID_EFFECT_KIND);
+    CHECK(memcmp(entry, kept, sizeof entry) == 0);
+
+    CHECK(birchjack_payload(bell, 28, 8000, 1, 26, 2) == 0);
+    CHECK(birchjack_payload(bell, 28, 8000, 1, 28, 0) == 0);
+    CHECK(birchjack_payload(bell, 28, 8000, 1, 27, 2) == BIRCHJACK_TRUNCATED_BANK);
+    CHECK(birchjack_payload(bell, 28, 8000, 1, UINT32_MAX, UINT32_MAX) == BIRCHJACK_TRUNCATED_BANK);
+    CHECK(birchjack_payload_of(bell, 27, 8000, 1, 7, &part) == BIRCHJACK_TRUNCATED_BANK);
+    CHECK(birchjack_payload_of(bell, 28, 8000, 1, 8, &part) == BIRCHJACK_EFFECT_NOT_FOUND);
+    CHECK(part[0] == 55 && part[1] == 55);
+    CHECK(birchjack_payload_of(bell, 28, 8000, 1, 7, &part) == 0 && part[0] == 26 && part[1] == 2);
+    CHECK(bell[part[0]] == 1 && bell[part[0] + part[1] - 1] == 2);
+}
+
+static void engine(void) {
+    CHECK(birchjack_play(2, bell, 28, 8000, 1, ring, 0) == 0);
+    CHECK(birchjack_play(2, bell, 28, 8000, 1, ring, 10) == 1);
+    CHECK(birchjack_play(17, bell, 28, 8000, 1, ring, 10) == 0);
+    int16_t mono[33], stereo[33];
+    CHECK(birchjack_pcm_i16(2, bell, 28, 8000, 1, ring, 10, 0, mono, 33) == 33);
+    stereo[32] = 0x55;
+    CHECK(birchjack_stereo_i16(2, bell, 28, 8000, 1, ring, 10, 0, stereo, 33) == 32 && stereo[32] == 0x55);
+    uint16_t duty[33], d;
+    CHECK(birchjack_duty(2, 0, bell, 28, 8000, 1, ring, 10, 0, duty, 33) == 33);
+    bool silent = true;
+    for (int i = 0; i < 33; i++) {
+        silent = silent && mono[i] == 0;
+        CHECK(mono[i] % 256 == 0);
+        CHECK(birchjack_duty_of((int8_t)(mono[i] / 256), 1000, &d) == 0 && d == duty[i]);
+    }
+    CHECK(!silent);
+}
+
+/* Document 01's list of frames, as a replay script: two voices, a square tone of 1,000 Hz, three duties, then a bad line. */
+static void scripts(void) {
+    static const char script[] = "100200003E8003E800FF00\n15000003E8000000\n200003\n\n4540\n";
+    static const char answer[] = "00\n000301F70213023E\nFFFF\n";
+    const uint8_t *bytes = (const uint8_t *)script;
+    size_t length = sizeof script - 1;
+    uint8_t out[64];
+    bool good = true;
+    CHECK(birchjack_answers(bytes, length, out, 0, &good) == sizeof answer - 1 && !good);
+    memset(out, '.', sizeof out);
+    CHECK(birchjack_answers(bytes, length, out, sizeof out, &good) == sizeof answer - 1 && !good);
+    CHECK(memcmp(out, answer, sizeof answer - 1) == 0 && out[sizeof answer - 1] == '.');
+    /* with room for five bytes five are written */
+    memset(out, '.', sizeof out);
+    CHECK(birchjack_answers(bytes, length, out, 5, &good) == sizeof answer - 1);
+    CHECK(memcmp(out, "00\n00.", 6) == 0);
+    /* without the bad line, and the last without its newline, the run is good */
+    CHECK(birchjack_answers(bytes, length - 7, out, sizeof out, &good) == sizeof answer - 1 - 5 && good);
+
+    int16_t cells[8];
+    static const uint16_t duty[3] = {0x01F7, 0x0213, 0x023E};
+    for (int i = 0; i < 8; i++) {
+        cells[i] = 0x55;
+    }
+    CHECK(birchjack_sound(bytes, length, cells, 8, &good) == 6 && !good);
+    for (int i = 0; i < 3; i++) {
+        uint16_t d;
+        CHECK(cells[2 * i] == cells[2 * i + 1]);
+        CHECK(birchjack_duty_of((int8_t)(cells[2 * i] / 256), 1000, &d) == 0 && d == duty[i]);
+    }
+    CHECK(cells[6] == 0x55 && cells[7] == 0x55);
+}
+
+int main(void) {
+    numbers();
+    limits();
+    duties();
+    envelope();
+    bank();
+    engine();
+    scripts();
+    printf("c: %d checks\n", checks);
+    return 0;
+}

@@ -1,0 +1,74 @@
+//! Document 01, "Where a call is turned down": its numbers and words.
+
+use std::fmt;
+
+/// Why a call is turned down. The numbers are document 01's.
+#[derive(Clone, Copy, Debug, PartialEq, Eq, Hash)]
+#[repr(u8)]
+pub enum Refusal {
+    VoiceCount = 1,
+    BadRate = 2,
+    BadPeriod = 3,
+    TruncatedBank = 4,
+    VoiceBusy = 5,
+    NoBank = 6,
+    BankMismatch = 7,
+    EffectNotFound = 8,
+    InvalidEffectKind = 9,
+    NotCarried = 10,
+    BadSum = 11,
+}
+
+impl Refusal {
+    /// Every refusal, in the order of its number.
+    pub const ALL: [Refusal; 11] = [
+        Refusal::VoiceCount,
+        Refusal::BadRate,
+        Refusal::BadPeriod,
+        Refusal::TruncatedBank,
+        Refusal::VoiceBusy,
+        Refusal::NoBank,
+        Refusal::BankMismatch,
+        Refusal::EffectNotFound,
+        Refusal::InvalidEffectKind,
+        Refusal::NotCarried,
+        Refusal::BadSum,
+    ];
+
+    /// Document 01's number.
+    pub fn number(self) -> u8 {
+        self as u8
+    }
+
+    /// What the library's number says: 0 is no refusal.
+    ///
+    /// # Panics
+    ///
+    /// Above 11, which no call answers (`error/specs/Numbers.antt`).
+    pub(crate) fn read(number: u8) -> Result<(), Refusal> {
+        match number {
+            0 => Ok(()),
+            n => Err(Refusal::ALL[usize::from(n) - 1]),
+        }
+    }
+}
+
+impl fmt::Display for Refusal {
+    fn fmt(&self, f: &mut fmt::Formatter<'_>) -> fmt::Result {
+        f.write_str(match self {
+            Refusal::VoiceCount => "more than 16 voices",
+            Refusal::BadRate => "sample rate above 65,537",
+            Refusal::BadPeriod => "PWM period below 2",
+            Refusal::TruncatedBank => "entries or a payload go past the bank's bytes",
+            Refusal::VoiceBusy => "no voice for the request",
+            Refusal::NoBank => "no bank set",
+            Refusal::BankMismatch => "another number of bytes lent than set",
+            Refusal::EffectNotFound => "no entry has the id",
+            Refusal::InvalidEffectKind => "an entry's kind byte is above 5",
+            Refusal::NotCarried => "an entry of a kind with stored samples",
+            Refusal::BadSum => "a sum outside -2,048..2,032",
+        })
+    }
+}
+
+impl std::error::Error for Refusal {}

@@ -1,0 +1,154 @@
+//! Document 01's checked examples and its refusals, through the library.
+
+use birchjack::{Bank, DutyMode, Envelope, Player, Refusal, Request};
+
+const CLICK: Envelope = Envelope {
+    attack_ms: 2,
+    decay_ms: 40,
+    sustain_q8: 0,
+    release_ms: 10,
+};
+
+/// Ten bytes, an entry of id 7 (sine tone, gain 255, 440 Hz, no end) with a payload of two bytes, and the payload.
+const BELL: [u8; 28] = [
+    0, 0, 0, 0, 0, 0, 0, 0, 0, 0, // not read
+    7, 0, 0, 0, 255, 0, 184, 1, 0, 0, 26, 0, 0, 0, 2, 0, // the entry
+    1, 2, // its payload
+];
+
+fn bell() -> Bank<'static> {
+    Bank {
+        bytes: &BELL,
+        sample_rate_hz: 8000,
+        effect_count: 1,
+    }
+}
+
+fn ring(priority: u8) -> Request {
+    Request {
+        id: 7,
+        envelope: CLICK,
+        priority,
+    }
+}
+
+#[test]
+fn numbers() {
+    assert_eq!([0, 64, 192, 255].map(birchjack::sine), [0, 63, -63, 0]);
+    assert_eq!(birchjack::phase_increment(1000, 8000), 536_870_912);
+    assert_eq!(birchjack::phase_increment(1000, 0), 0);
+    assert_eq!([127, -127].map(|s| birchjack::gain(s, 255)), [126, -127]);
+    assert_eq!(birchjack::lerp(-128, 127, 128), -1);
+    assert_eq!([0, 128, 129].map(birchjack::pan_gains), [(255, 0), (255, 255), (252, 255)]);
+}
+
+#[test]
+fn numbers_that_may_be_refused() {
+    assert_eq!([96, 97, 127, -128].map(birchjack::limit), [Ok(96), Ok(96), Ok(111), Ok(-112)]);
+    assert_eq!([-2049, 2033].map(birchjack::limit), [Err(Refusal::BadSum); 2]);
+    assert!(birchjack::limit(-2048).is_ok() && birchjack::limit(2032).is_ok());
+    assert_eq!([127, 0, -128].map(|s| birchjack::duty_of(s, 1000)), [Ok(999), Ok(500), Ok(1)]);
+    assert_eq!(birchjack::duty_of(100, 2), Ok(1));
+    assert_eq!(birchjack::duty_of(0, 1), Err(Refusal::BadPeriod));
+    assert_eq!(birchjack::fade_step(0, 8000), Ok(255));
+    assert_eq!(birchjack::fade_step(10, 8000), Ok(4));
+    assert_eq!(birchjack::fade_step(10, 65_538), Err(Refusal::BadRate));
+}
+
+#[test]
+fn an_envelope_alone() {
+    let e = Envelope {
+        attack_ms: 4,
+        decay_ms: 4,
+        sustain_q8: 0,
+        release_ms: 4,
+    };
+    let (mut held, mut left) = ([9; 8], [9; 3]);
+    assert_eq!(e.levels(1000, &mut held, &mut left), Ok(()));
+    assert_eq!((held, left), ([63, 159, 231, 255, 192, 96, 24, 0], [0; 3]));
+    let (mut held, mut left) = ([9; 4], [9; 4]);
+    assert_eq!(e.levels(1000, &mut held, &mut left), Ok(()));
+    assert_eq!((held, left), ([63, 159, 231, 255], [192, 96, 24, 0]));
+    let mut held = [9; 2];
+    assert_eq!(e.levels(65_538, &mut held, &mut []), Err(Refusal::BadRate));
+    assert_eq!(held, [9; 2]);
+}
+
+#[test]
+fn a_bank() {
+    let e = bell().find(7).unwrap();
+    assert_eq!((e.id, e.kind, e.flags, e.default_gain_q8, e.param0), (7, 0, 0, 255, 440));
+    assert_eq!((e.param1, e.offset, e.len), (0, 26, 2));
+    assert_eq!(bell().find(8), Err(Refusal::EffectNotFound));
+    assert_eq!(bell().payload_of(7), Ok(&BELL[26..]));
+    assert_eq!(bell().payload_of(8), Err(Refusal::EffectNotFound));
+    assert_eq!(bell().payload(10, 3), Ok(&BELL[10..13]));
+    assert_eq!(bell().payload(28, 0), Ok(&BELL[28..]));
+    assert_eq!(bell().payload(27, 2), Err(Refusal::TruncatedBank));
+    let fast = Bank {
+        sample_rate_hz: 65_538,
+        ..bell()
+    };
+    assert_eq!(fast.find(7), Err(Refusal::BadRate));
+    let short = Bank {
+        bytes: &BELL[..25],
+        ..bell()
+    };
+    assert_eq!(short.find(7), Err(Refusal::TruncatedBank));
+    let cut = Bank {
+        bytes: &BELL[..27],
+        ..bell()
+    };
+    assert_eq!(cut.payload_of(7), Err(Refusal::TruncatedBank));
+    let mut odd = BELL;
+    odd[12] = 6;
+    let odd = Bank {
+        bytes: &odd,
+        ..bell()
+    };
+    assert_eq!(odd.find(7), Err(Refusal::InvalidEffectKind));
+}
+
+#[test]
+fn requests_and_frames() {
+    let player = Player {
+        voices: 2,
+        bank: bell(),
+        polyblep_hz: 0,
+    };
+    assert_eq!(player.play(&[]), 0);
+    assert_eq!(player.play(&[ring(3)]), 1);
+    assert_eq!(player.play(&[3, 5, 5, 7].map(ring)), 2);
+    let crowd = Player {
+        voices: 17,
+        ..player
+    };
+    assert_eq!(crowd.play(&[ring(3)]), 0);
+
+    let mut mono = [0x55; 33];
+    assert_eq!(player.pcm_i16(&[ring(3)], &mut mono), 33);
+    assert!(mono.iter().any(|s| *s != 0) && mono.iter().all(|s| s % 256 == 0));
+    let mut stereo = [0x55; 33];
+    assert_eq!(player.stereo_i16(&[ring(3)], &mut stereo), 32);
+    assert_eq!(stereo[32], 0x55);
+    let mut duty = [0; 33];
+    assert_eq!(player.duty(DutyMode::Linear, &[ring(3)], &mut duty), 33);
+    for (d, s) in duty.iter().zip(mono) {
+        assert_eq!(Ok(*d), birchjack::duty_of((s / 256) as i8, 1000));
+    }
+    let saw = Player {
+        polyblep_hz: 440,
+        ..player
+    };
+    let mut with = [0; 33];
+    assert_eq!(saw.pcm_i16(&[ring(3)], &mut with), 33);
+    assert_ne!(with, mono);
+}
+
+#[test]
+fn refusals_have_document_01s_numbers() {
+    for (i, r) in Refusal::ALL.iter().enumerate() {
+        assert_eq!(usize::from(r.number()), i + 1);
+        assert!(!r.to_string().is_empty());
+    }
+}

@@ -1,0 +1,118 @@
+/* The calls of Birchjack's static library (docs/HOSTS.md). Every call is proved: it ends, it traps nowhere, and it gives what its
+ * definition in crates/exports/specs says, for all arguments.
+ *
+ * What a call is lent it lends back: nothing is kept, nothing is allocated, and there is no state between calls. A buffer is a pointer
+ * and a number of elements. The pointer is never NULL, not even where the number is 0, and no buffer that is written overlaps another.
+ *
+ * A call that may be refused answers 0 or a number of enum birchjack_refusal, and gives its value through the pointer `out`; where it
+ * is refused, nothing is written. */
+#ifndef BIRCHJACK_H
+#define BIRCHJACK_H
+
+#include <stdbool.h>
+#include <stddef.h>
+#include <stdint.h>
+
+#ifdef __cplusplus
+extern "C" {
+#endif
+
+/* Why a call is turned down. */
+enum birchjack_refusal {
+    BIRCHJACK_ACCEPTED = 0,
+    BIRCHJACK_VOICE_COUNT = 1,         /* more than 16 voices */
+    BIRCHJACK_BAD_RATE = 2,            /* sample rate above 65,537 */
+    BIRCHJACK_BAD_PERIOD = 3,          /* PWM period below 2 */
+    BIRCHJACK_TRUNCATED_BANK = 4,      /* entries or a payload go past the bank's bytes */
+    BIRCHJACK_VOICE_BUSY = 5,          /* no voice for the request */
+    BIRCHJACK_NO_BANK = 6,             /* no bank set */
+    BIRCHJACK_BANK_MISMATCH = 7,       /* another number of bytes lent than set */
+    BIRCHJACK_EFFECT_NOT_FOUND = 8,    /* no entry has the id */
+    BIRCHJACK_INVALID_EFFECT_KIND = 9, /* an entry's kind byte is above 5 */
+    BIRCHJACK_NOT_CARRIED = 10,        /* an entry of a kind with stored samples */
+    BIRCHJACK_BAD_SUM = 11             /* a sum outside -2,048..2,032 */
+};
+
+/* ---- numbers alone */
+
+/* floor(sample * gain_q8 / 256) */
+int8_t birchjack_gain(int8_t sample, uint8_t gain_q8);
+
+/* a + truncated((b - a) * fraction / 256) */
+int8_t birchjack_lerp(int8_t a, int8_t b, uint8_t fraction);
+
+/* The gains of a pan, 128 being the middle: left, right. */
+void birchjack_pan_gains(uint8_t pan_q8, uint8_t (*out)[2]);
+
+/* What a 32-bit phase gains with each sample; 0 for a rate of 0. */
+uint32_t birchjack_phase_increment(uint32_t freq_hz, uint32_t sample_rate_hz);
+
+/* The sine at an index of 256. */
+int8_t birchjack_sine(uint8_t index);
+
+/* The bus limiter alone; 11 for a sum outside -2,048..2,032. */
+uint8_t birchjack_limit(int32_t sum, int8_t *out);
+
+/* A sample's compare value in a period; 3 for a period below 2. */
+uint8_t birchjack_duty_of(int8_t sample, uint16_t period, uint16_t *out);
+
+/* What a fade gains with each frame, of 255; 2 for a rate above 65,537. */
+uint8_t birchjack_fade_step(uint16_t duration_ms, uint32_t sample_rate_hz, uint8_t *out);
+
+/* ---- an envelope alone */
+
+/* A triggered envelope's level after each tick: as many as there are cells in `held`, then it is released, and as many as there are in
+ * `left`. 2 for a rate above 65,537. */
+uint8_t birchjack_envelope(uint16_t attack_ms, uint16_t decay_ms, uint8_t sustain_q8, uint16_t release_ms, uint32_t sample_rate_hz,
+                           uint8_t *held, size_t held_len, uint8_t *left, size_t left_len);
+
+/* ---- a bank, which is set for the call: 2 for a rate above 65,537, 4 where its entries go past its bytes */
+
+/* The entry with an id: id, kind, flags, gain, param0, param1, offset, length. 8 and 9 as above. */
+uint8_t birchjack_find(const uint8_t *bytes, size_t bytes_len, uint32_t sample_rate_hz, uint16_t effect_count, uint16_t id,
+                       uint32_t (*out)[8]);
+
+/* Whether a payload is there: 0, and then it is bytes[offset] up to bytes[offset + len]; or 4. */
+uint8_t birchjack_payload(const uint8_t *bytes, size_t bytes_len, uint32_t sample_rate_hz, uint16_t effect_count, uint32_t offset,
+                          uint32_t len);
+
+/* The payload of the entry with an id: its offset in the bytes and its length. 4, 8 and 9 as above. */
+uint8_t birchjack_payload_of(const uint8_t *bytes, size_t bytes_len, uint32_t sample_rate_hz, uint16_t effect_count, uint16_t id,
+                             uint32_t (*out)[2]);
+
+/* ---- an engine that lives for the call: n voices (16 at most), period 1,000, master gain 255, LowestPriorityOldest, this bank, and the
+ * requests played one after another. A request has ten bytes, big-endian: id (2), attack (2), decay (2), sustain (1), release (2),
+ * priority (1). Where a polyblep_hz other than 0 is given, voice 0 then sounds a sawtooth of that frequency for a minute. Where opening
+ * or setting the bank is refused, the engine is the one that the refused call leaves. */
+
+/* How many voices are audible after the requests. */
+size_t birchjack_play(size_t n, const uint8_t *bytes, size_t bytes_len, uint32_t sample_rate_hz, uint16_t effect_count,
+                      const uint8_t *requests, size_t requests_len);
+
+/* A mono frame in each cell; how many cells were written. */
+size_t birchjack_pcm_i16(size_t n, const uint8_t *bytes, size_t bytes_len, uint32_t sample_rate_hz, uint16_t effect_count,
+                         const uint8_t *requests, size_t requests_len, uint32_t polyblep_hz, int16_t *out, size_t out_len);
+
+/* A stereo frame in each pair of cells, voice 0 to the left and voice 1 to the right; how many cells were written (an odd last is not). */
+size_t birchjack_stereo_i16(size_t n, const uint8_t *bytes, size_t bytes_len, uint32_t sample_rate_hz, uint16_t effect_count,
+                            const uint8_t *requests, size_t requests_len, uint32_t polyblep_hz, int16_t *out, size_t out_len);
+
+/* A compare value in each cell, in a duty mode: 0 linear, 1 first order, else second order; how many cells were written. */
+size_t birchjack_duty(size_t n, uint8_t mode, const uint8_t *bytes, size_t bytes_len, uint32_t sample_rate_hz, uint16_t effect_count,
+                      const uint8_t *requests, size_t requests_len, uint32_t polyblep_hz, uint16_t *out, size_t out_len);
+
+/* ---- a whole replay script (docs/REPLAY.md), which drives one engine through any of its calls. As much as there is room for is
+ * written, and the length of all of it is the answer, as with snprintf: call once with out_len 0 to ask for the length. *good says
+ * whether no line is bad; a bad line ends the run. These two need some 600 KB of stack. */
+
+/* The answers of the lines, in bytes. */
+size_t birchjack_answers(const uint8_t *script, size_t script_len, uint8_t *out, size_t out_len, bool *good);
+
+/* The sound of the lines: 16-bit stereo cells, left before right, of every frame that the lines ask for. */
+size_t birchjack_sound(const uint8_t *script, size_t script_len, int16_t *out, size_t out_len, bool *good);
+
+#ifdef __cplusplus
+}
+#endif
+
+#endif

@@ -3,9 +3,11 @@
 # make differential  the long comparison with the Rust original
 # make edits         the must-fail edits that the gate leaves out
 # make pictures      docs/pictures, drawn anew from the program's answers
+# make hosts         the static library, tested from C and from Rust
+# make mutants       the mutation run (docs/MUTANTS.md)
 # make bench         the comparison with it in speed (docs/SPEED.md); it takes minutes and belongs to no gate
 
-.PHONY: main test differential bench edits pictures oracle-tests record
+.PHONY: main test differential hosts mutants bench edits pictures oracle-tests record
 
 main:
 	rt check
@@ -20,6 +22,9 @@ test:
 differential:
 	rt check replay
 	tools/differential long target/bin/replay frames
+
+hosts:
+	tools/hosts
 
 bench:
 	tools/bench

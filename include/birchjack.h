@@ -103,7 +103,7 @@ size_t birchjack_duty(size_t n, uint8_t mode, const uint8_t *bytes, size_t bytes
 
 /* ---- a whole replay script (docs/REPLAY.md), which drives one engine through any of its calls. As much as there is room for is
  * written, and the length of all of it is the answer, as with snprintf: call once with out_len 0 to ask for the length. *good says
- * whether no line is bad; a bad line ends the run. These two need some 600 KB of stack. */
+ * whether no line is bad; a bad line ends the run. These two need some 400 KB of stack. */
 
 /* The answers of the lines, in bytes. */
 size_t birchjack_answers(const uint8_t *script, size_t script_len, uint8_t *out, size_t out_len, bool *good);

@@ -4,6 +4,11 @@
 //! SAFETY of every call below: the library asks that each pointer is valid for its length and that what is written is no other's during
 //! the call, and a slice or a reference is that.
 
+// The example of the page is a test.
+#[cfg(doctest)]
+#[doc = include_str!("../../../docs/HOSTS.md")]
+struct Page;
+
 mod bank;
 mod player;
 mod raw;

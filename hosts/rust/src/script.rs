@@ -1,4 +1,4 @@
-//! A whole replay script (docs/REPLAY.md). These calls need some 600 KB of stack.
+//! A whole replay script (docs/REPLAY.md). These calls need some 400 KB of stack.
 
 use crate::raw;
 

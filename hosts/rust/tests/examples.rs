@@ -39,15 +39,27 @@ fn numbers() {
     assert_eq!(birchjack::phase_increment(1000, 0), 0);
     assert_eq!([127, -127].map(|s| birchjack::gain(s, 255)), [126, -127]);
     assert_eq!(birchjack::lerp(-128, 127, 128), -1);
-    assert_eq!([0, 128, 129].map(birchjack::pan_gains), [(255, 0), (255, 255), (252, 255)]);
+    assert_eq!(
+        [0, 128, 129].map(birchjack::pan_gains),
+        [(255, 0), (255, 255), (252, 255)]
+    );
 }
 
 #[test]
 fn numbers_that_may_be_refused() {
-    assert_eq!([96, 97, 127, -128].map(birchjack::limit), [Ok(96), Ok(96), Ok(111), Ok(-112)]);
-    assert_eq!([-2049, 2033].map(birchjack::limit), [Err(Refusal::BadSum); 2]);
+    assert_eq!(
+        [96, 97, 127, -128].map(birchjack::limit),
+        [Ok(96), Ok(96), Ok(111), Ok(-112)]
+    );
+    assert_eq!(
+        [-2049, 2033].map(birchjack::limit),
+        [Err(Refusal::BadSum); 2]
+    );
     assert!(birchjack::limit(-2048).is_ok() && birchjack::limit(2032).is_ok());
-    assert_eq!([127, 0, -128].map(|s| birchjack::duty_of(s, 1000)), [Ok(999), Ok(500), Ok(1)]);
+    assert_eq!(
+        [127, 0, -128].map(|s| birchjack::duty_of(s, 1000)),
+        [Ok(999), Ok(500), Ok(1)]
+    );
     assert_eq!(birchjack::duty_of(100, 2), Ok(1));
     assert_eq!(birchjack::duty_of(0, 1), Err(Refusal::BadPeriod));
     assert_eq!(birchjack::fade_step(0, 8000), Ok(255));
@@ -77,7 +89,10 @@ fn an_envelope_alone() {
 #[test]
 fn a_bank() {
     let e = bell().find(7).unwrap();
-    assert_eq!((e.id, e.kind, e.flags, e.default_gain_q8, e.param0), (7, 0, 0, 255, 440));
+    assert_eq!(
+        (e.id, e.kind, e.flags, e.default_gain_q8, e.param0),
+        (7, 0, 0, 255, 440)
+    );
     assert_eq!((e.param1, e.offset, e.len), (0, 26, 2));
     assert_eq!(bell().find(8), Err(Refusal::EffectNotFound));
     assert_eq!(bell().payload_of(7), Ok(&BELL[26..]));

@@ -5,7 +5,9 @@ use std::path::PathBuf;
 use birchjack::{Ran, answers, answers_of, sound, sound_of};
 
 fn recorded(name: &str) -> Vec<u8> {
-    let path: PathBuf = [env!("CARGO_MANIFEST_DIR"), "../../crates/replay", name].iter().collect();
+    let path: PathBuf = [env!("CARGO_MANIFEST_DIR"), "../../crates/replay", name]
+        .iter()
+        .collect();
     std::fs::read(&path).unwrap_or_else(|e| panic!("{}: {e}", path.display()))
 }
 
@@ -26,7 +28,10 @@ fn lines() {
     }
     assert_eq!(answers_of(b""), (vec![], true));
     // an empty line is bad, and ends the run
-    assert_eq!(answers_of(b"4540\n\n4540\n"), (b"3F\nFFFF\n".to_vec(), false));
+    assert_eq!(
+        answers_of(b"4540\n\n4540\n"),
+        (b"3F\nFFFF\n".to_vec(), false)
+    );
     assert_eq!(answers_of(b"4540\r\n4540\n"), (b"FFFF\n".to_vec(), false));
 }
 

@@ -1,7 +1,7 @@
-# make               proves and builds the programs, and runs each on an example
+# make               proves and builds the programs, and renders a school's day to target/day.wav
 # make test          all that the gate runs
 # make differential  the long comparison with the Rust original
-# make edits         the must-fail edits that the gate leaves out
+# make edits         every must-fail edit, those of the gate and the others
 # make pictures      docs/pictures, drawn anew from the program's answers
 # make hosts         the static library, tested from C and from Rust
 # make mutants       the mutation run (docs/MUTANTS.md)
@@ -10,17 +10,14 @@
 .PHONY: main test differential hosts mutants bench edits pictures oracle-tests record
 
 main:
-	rt check
-	target/bin/replay < docs/example.script
-	target/bin/framelist < crates/framelist/stdin
-	target/bin/render target/day.wav docs/day.script | tee target/day.txt
-	tools/wavcheck target/day.wav target/day.txt
+	tools/prove
+	tools/example
 
 test:
 	tools/gate
 
 differential:
-	rt check replay
+	tools/prove replay
 	tools/differential long target/bin/replay frames
 
 hosts:
@@ -30,10 +27,15 @@ bench:
 	tools/bench
 
 edits:
+	tools/prove
 	tools/edits
 
+mutants:
+	tools/prove
+	tools/mutants
+
 pictures:
-	rt check replay
+	tools/prove replay
 	tools/pictures
 
 oracle-tests:

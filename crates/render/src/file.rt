@@ -1,6 +1,9 @@
 // The sound file: frames that are held back and written, the header once all are counted.
 ghost use mathlib.Core.Path.{_≡_};
+ghost use mathlib.Core.Bool.{_&&_};
 ghost use Prim.Native.Nat.{_≤_};
+ghost use lib.ListN.{length};
+ghost use Rattle.render.specs.Files.{moreFrames, otherRate, roomFor, heldCount, Kept, Adds};
 use crate::words::Clock;
 use wav::put_cells;
 
@@ -20,8 +23,9 @@ pub enum Room {
     TooLong,
 }
 
-// The frames after some more, held to what a number of 32 bits has.
-fn more_frames(frames: u32, more: usize) -> u32 {
+fn more_frames(frames: u32, more: usize) -> u32
+    ensures { λ r. ⌜ r ≡ moreFrames frames more ⌝ }
+{
     let left = 0xffff_ffff - frames;
     if more as u64 > left as u64 {
         0xffff_ffff
@@ -30,66 +34,67 @@ fn more_frames(frames: u32, more: usize) -> u32 {
     }
 }
 
-// A file has one rate, and sizes of 32 bits.
-pub fn room_for(f: SoundFile, rate: u32, cells: usize) -> Room {
-    let c = f.clock;
+fn other_rate(c: Clock, rate: u32) -> bool
+    ensures { λ r. ⌜ r ≡ otherRate c rate ⌝ }
+{
+    c.frames > 0 && c.rate != rate
+}
+
+// Whether so many cells at a rate can go on to what a file has.
+pub fn room_for(c: Clock, rate: u32, cells: usize) -> Room
+    ensures { λ r. ⌜ r ≡ roomFor c rate cells ⌝ }
+{
     if rate == 0 {
         return Room::NoRate;
     }
-    if c.frames > 0 && rate != c.rate {
+    if other_rate(c, rate) {
         return Room::OtherRate;
     }
     let h = wav::header(rate, more_frames(c.frames, cells / 2));
     if h.fits { Room::Fits } else { Room::TooLong }
 }
 
-// Writes the first n bytes and says whether that went well.
-fn write_front(fd: i32, s: &[u8], n: usize) -> bool {
-    if n <= s.len() {
-        io::write_all(fd, &s[..n])
-    } else {
-        false
-    }
+fn both(a: bool, b: bool) -> bool
+    ensures { λ r. ⌜ r ≡ a && b ⌝ }
+{
+    if a { b } else { false }
 }
 
+// Writes what is held back.
 pub fn flushed(f: SoundFile, kept: &[u8]) -> SoundFile
-    ensures { λ r. ⌜ r .held ≡ 0 ⌝ }
+    requires { ⌜ f .held ≤ length (now kept) ⌝ }
+    ensures { λ r. ⌜ Kept f 0 (f .clock) r ⌝ }
 {
-    let went = write_front(f.fd, kept, f.held);
+    let n = f.held;
+    let is_written = both(f.is_written, io::write_all(f.fd, &kept[..n]));
     SoundFile {
         held: 0,
-        is_written: f.is_written && went,
+        is_written,
         ..f
     }
 }
 
-// Where what is held back would not have room for a line's cells after it, it is written.
+// A file with room for a line's cells.
 fn with_room(f: SoundFile, kept: &[u8]) -> SoundFile
-    ensures { λ r. ⌜ r .held ≤ 57344 ⌝ }
+    requires { ⌜ f .held ≤ length (now kept) ⌝ }
+    ensures { λ r. ⌜ Kept f (heldCount (f .held)) (f .clock) r ⌝ }
 {
     if f.held <= 57344 { f } else { flushed(f, kept) }
 }
 
-// A line's cells, at most 4,096, which have room.
-pub fn add(f: SoundFile, rate: u32, cells: &[i16], n: usize, kept: &mut [u8]) -> SoundFile {
+// A line's cells, behind what is held back.
+pub fn add(f: SoundFile, rate: u32, cells: &[i16], kept: &mut [u8]) -> SoundFile
+    requires { ⌜ f .held ≤ 65536 ⌝ }
+    requires { ⌜ length (now cells) ≤ 4096 ⌝ }
+    requires { ⌜ length (now kept) ≡ 65536 ⌝ }
+    ensures { λ r. ⌜ Adds f rate (now (cells .entry)) (now (kept .entry)) (now (kept .exit)) r ⌝ }
+{
     let g = with_room(f, &*kept);
     let at = g.held;
     let c = g.clock;
-    if n > cells.len() || n > 4096 || at > kept.len() {
-        return SoundFile {
-            is_written: false,
-            ..g
-        };
-    }
-    let got = put_cells(&cells[..n], &mut kept[at..]);
-    if got != 2 * n {
-        return SoundFile {
-            is_written: false,
-            ..g
-        };
-    }
+    let got = put_cells(cells, &mut kept[at..]);
     let clock = Clock {
-        frames: more_frames(c.frames, n / 2),
+        frames: more_frames(c.frames, cells.len() / 2),
         rate,
     };
     SoundFile {

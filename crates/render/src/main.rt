@@ -6,7 +6,7 @@ mod problems;
 mod steps;
 mod words;
 
-ghost use Rattle.session.specs.Sessions.{ValidSession};
+ghost use Prim.Native.Nat.{_≤_};
 use file::SoundFile;
 use file::flushed;
 use file::write_header;
@@ -46,14 +46,15 @@ fn total(c: Clock) {
 
 // Writes what is held back and the header, and says how much sound there is. A file without frames has the rate that the engine has at
 // the end.
-fn finish(path: &[u8], f: SoundFile, rate: u32, kept: &[u8; 65536]) {
+fn finish(path: &[u8], f: SoundFile, rate: u32, kept: &[u8; 65536])
+    requires { ⌜ f .held ≤ 65536 ⌝ }
+{
     let g = flushed(f, kept);
     let c = g.clock;
     let clock = Clock {
         rate: if c.frames == 0 { rate } else { c.rate },
         ..c
     };
-    problems::progress_ended(clock);
     if write_header(g.fd, clock) && g.is_written {
         total(clock);
     } else {

@@ -1,4 +1,6 @@
 // What goes to standard error: what is refused, and how far a long run is.
+ghost use mathlib.Core.Path.{_≡_};
+ghost use Rattle.render.specs.Files.{tensOf, fits};
 use crate::file::Room;
 use crate::words::Clock;
 use libc::STDERR_FILENO;
@@ -26,7 +28,9 @@ pub fn bad_line(number: u64) {
 }
 
 // Says why frames cannot go on to the file, and answers whether they can.
-pub fn has_room(r: Room, number: u64) -> bool {
+pub fn has_room(r: Room, number: u64) -> bool
+    ensures { λ b. ⌜ b ≡ fits r ⌝ }
+{
     match r {
         Room::Fits => true,
         Room::NoRate => {
@@ -50,27 +54,20 @@ pub fn has_room(r: Room, number: u64) -> bool {
     }
 }
 
-// How many times 10 s have passed.
-fn tens(c: Clock) -> u64 {
+fn tens(c: Clock) -> u64
+    ensures { λ r. ⌜ r ≡ tensOf c ⌝ }
+{
     if c.rate == 0 {
         return 0;
     }
     (c.frames as u64) / (10 * (c.rate as u64))
 }
 
-// One line that is written over at each further 10 s.
+// At each further 10 s, on one line that whatever comes next is written over.
 pub fn progress(before: Clock, after: Clock) {
     let n = tens(after);
     if n > tens(before) {
-        note(b"\r");
         io::print_decimal(STDERR_FILENO, n);
-        note(b"0 s of sound");
-    }
-}
-
-// The end of that line, where there is one.
-pub fn progress_ended(c: Clock) {
-    if tens(c) > 0 {
-        note(b"\n");
+        note(b"0 s of sound\r");
     }
 }

@@ -1,5 +1,8 @@
 // A run over a script's lines: each is answered, told in the account and heard in the file.
-ghost use Rattle.session.specs.Sessions.{ValidSession};
+ghost use mathlib.Core.Path.{_≡_};
+ghost use Prim.Native.Nat.{_≤_};
+ghost use lib.ListN.{length};
+ghost use Rattle.render.specs.Runs.{ValidRun};
 use crate::account::tell;
 use crate::file::SoundFile;
 use crate::file::add;
@@ -23,8 +26,8 @@ pub struct Run {
 }
 
 pub fn stopped(r: Run) -> Run
-    requires { ⌜ ValidSession (r .session) ⌝ }
-    ensures { λ s. ⌜ ValidSession (s .session) ⌝ }
+    requires { ⌜ ValidRun r ⌝ }
+    ensures { λ s. ⌜ ValidRun s ⌝ }
 {
     let p = r.place;
     let place = Place { more: false, ..p };
@@ -39,8 +42,8 @@ pub fn rate_of(s: Session) -> u32 {
 
 // Answers a line and tells it in the account. A line that is no record ends the run.
 fn answered(r: Run, l: &[u8], lent: &mut [u8; 4096], out: &mut [u8; 262144]) -> Run
-    requires { ⌜ ValidSession (r .session) ⌝ }
-    ensures { λ s. ⌜ ValidSession (s .session) ⌝ }
+    requires { ⌜ ValidRun r ⌝ }
+    ensures { λ s. ⌜ ValidRun s ⌝ }
 {
     let p = r.place;
     let f = r.file;
@@ -60,15 +63,17 @@ fn answered(r: Run, l: &[u8], lent: &mut [u8; 4096], out: &mut [u8; 262144]) -> 
 
 // A line that sounds n cells, which stand at the front.
 fn heard(r: Run, rate: u32, cells: &[i16], n: usize, kept: &mut [u8; 65536]) -> Run
-    requires { ⌜ ValidSession (r .session) ⌝ }
-    ensures { λ s. ⌜ ValidSession (s .session) ⌝ }
+    requires { ⌜ ValidRun r ⌝ }
+    requires { ⌜ length (now cells) ≡ 4096 ⌝ }
+    requires { ⌜ n ≤ 4096 ⌝ }
+    ensures { λ s. ⌜ ValidRun s ⌝ }
 {
     let p = r.place;
     let f = r.file;
-    if !problems::has_room(room_for(f, rate, n), p.number) {
+    if !problems::has_room(room_for(f.clock, rate, n), p.number) {
         return stopped(r);
     }
-    let file = add(f, rate, cells, n, kept);
+    let file = add(f, rate, &cells[..n], kept);
     problems::progress(f.clock, file.clock);
     let place = Place {
         more: p.more && file.is_written,
@@ -86,8 +91,8 @@ fn line_done(
     cells: &mut [i16; 4096],
     kept: &mut [u8; 65536],
 ) -> Run
-    requires { ⌜ ValidSession (r .session) ⌝ }
-    ensures { λ s. ⌜ ValidSession (s .session) ⌝ }
+    requires { ⌜ ValidRun r ⌝ }
+    ensures { λ s. ⌜ ValidRun s ⌝ }
 {
     let before = r.session;
     let n = sounds::sound(l, before, cells);
@@ -112,8 +117,8 @@ fn ended(
     cells: &mut [i16; 4096],
     kept: &mut [u8; 65536],
 ) -> Run
-    requires { ⌜ ValidSession (r .session) ⌝ }
-    ensures { λ s. ⌜ ValidSession (s .session) ⌝ }
+    requires { ⌜ ValidRun r ⌝ }
+    ensures { λ s. ⌜ ValidRun s ⌝ }
 {
     if n > line.len() {
         return stopped(r);
@@ -138,8 +143,8 @@ fn feed(
     cells: &mut [i16; 4096],
     kept: &mut [u8; 65536],
 ) -> Run
-    requires { ⌜ ValidSession (r .session) ⌝ }
-    ensures { λ s. ⌜ ValidSession (s .session) ⌝ }
+    requires { ⌜ ValidRun r ⌝ }
+    ensures { λ s. ⌜ ValidRun s ⌝ }
 {
     let mut t = r;
     let mut i = 0;
@@ -167,8 +172,8 @@ pub fn read_some(
     cells: &mut [i16; 4096],
     kept: &mut [u8; 65536],
 ) -> Run
-    requires { ⌜ ValidSession (r .session) ⌝ }
-    ensures { λ s. ⌜ ValidSession (s .session) ⌝ }
+    requires { ⌜ ValidRun r ⌝ }
+    ensures { λ s. ⌜ ValidRun s ⌝ }
 {
     let mut chunk = io::large_buffer();
     let got = libc::read(input, &mut chunk);

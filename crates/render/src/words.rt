@@ -1,4 +1,6 @@
 // Words and numbers of the account, on standard output.
+ghost use mathlib.Core.Path.{_≡_};
+ghost use Rattle.render.specs.Files.{millisecondsOf};
 use libc::STDOUT_FILENO;
 
 // A time in the sound: so many frames, at a rate.
@@ -28,8 +30,9 @@ fn digit(n: u64) -> u8 {
     48 + (n % 10) as u8
 }
 
-// Whole milliseconds; 0 where there is no rate yet.
-fn milliseconds(c: Clock) -> u64 {
+fn milliseconds(c: Clock) -> u64
+    ensures { λ r. ⌜ r ≡ millisecondsOf c ⌝ }
+{
     if c.rate == 0 {
         return 0;
     }

@@ -3,13 +3,13 @@ use borrow.Author.Needs.{needs}
 use Prim.Native.Nat.{_-_, _≤_, _<_}
 use native.Mathlib.Omega.{arith}
 use lib.ListN.{length}
-use Rattle.session.specs.Sessions.{ValidSession}
+use Rattle.render.specs.Runs.{ValidRun}
 use Rattle.lines.proofs.Laws.{reads-on}
 use Rattle.render.proofs.steps.feed.Statement.{statement}
 use Rattle.render.proofs.steps.feed.Tie as tie
 
 abbrev Inv-loop : tie.InvT-loop
-Inv-loop chunk line₀ lent₀ out₀ cells₀ kept₀ t₀ i₀ line lent out cells kept t i = (i ≤ length chunk) × ValidSession (t .session)
+Inv-loop chunk line₀ lent₀ out₀ cells₀ kept₀ t₀ i₀ line lent out cells kept t i = (i ≤ length chunk) × ValidRun t
 
 abbrev μ-loop : tie.MeasureT-loop
 μ-loop chunk line₀ lent₀ out₀ cells₀ kept₀ t₀ i₀ line lent out cells kept t i = length chunk - i

@@ -2,7 +2,7 @@
 --     Parts    filling in two parts is filling at once
 --     Cells    a block's samples stored one after another
 --     Fill     blocks after the frames so far
---     Periods  a period of at least 2 is accepted
+--     Periods  what an accepted period tells
 --     Duties   duties are the mapper over the frames' samples
 pub mod Parts
 mod Cells

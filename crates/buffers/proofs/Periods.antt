@@ -1,15 +1,10 @@
--- A period of at least 2 is accepted. Assumes nothing.
-use Prim.Native.Nat.{ℕ, _≤_}
+-- What an accepted period tells. Assumes nothing.
+use Prim.Native.Nat.{ℕ}
 use native.Mathlib.Omega.{arith}
-use borrow.Author.Tests.{le-ltb}
 use mathlib.Core.Path.{_≡_}
 use Rattle.error.specs.declared.AudioError.{AudioError}
-use Rattle.output.specs.Duty.{periodRead}
 use Rattle.output.specs.declared.Period.{Period}
 use Rattle.output.specs.declared.PeriodRead.the-variants as R
-
-pub accepted : (n : ℕ) → 2 ≤ n → periodRead n ≡ R.Accepted (record { counts = n })
-accepted n h = rw (le-ltb n 2 h)
 
 pub period-is : (p q : Period) → R.Accepted p ≡ R.Accepted q → p ≡ q
 period-is p q e = cc

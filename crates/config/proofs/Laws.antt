@@ -44,9 +44,6 @@ by-sample ms rate (suc n) e =
 pub step-least : (ms rate : ℕ) → 1 ≤ stepOf ms rate
 step-least ms rate = by-sample ms rate _ refl .0
 
-pub step-most : (ms rate : ℕ) → stepOf ms rate ≤ 255
-step-most ms rate = by-sample ms rate _ refl .1
-
 -- at an engine's rate there is a step
 pub step-given : (ms rate : ℕ) → rate ≤ 65537 → fadeStep ms rate ≡ Step (stepOf ms rate)
 unfolding fadeStep

@@ -11,10 +11,8 @@ use Rattle.envelope.specs.declared.AdsrSpec.{AdsrSpec}
 use Rattle.envelope.specs.declared.Adsr.{Adsr}
 use Rattle.envelope.specs.declared.AdsrPhase.{AdsrPhase}
 use Rattle.envelope.specs.declared.AdsrPhase.the-variants as P
-use Rattle.envelope.specs.declared.Envelope.{Envelope}
 use Rattle.envelope.specs.Samples.{samplesOf}
 use Rattle.envelope.specs.Adsrs.{Valid, Counting, Times, idleAdsr, inPhase, attackLength, decayLength, releaseLength, beganDecay, beganRelease, triggered, released, advancedToward, orAtEnd, ticked, tickedIn, active, activeIn, running}
-use Rattle.envelope.specs.Alone.{ValidEnvelope, triggeredEnvelope, releasedEnvelope, tickedEnvelope}
 
 -- ---- 65,535 × 65,537 = 2^32 − 1
 pub product-fits : {ms rate : ℕ} → ms ≤ 65535 → rate ≤ 65537 → ms * rate ≤ 4294967295
@@ -147,16 +145,3 @@ inactive-idle P.Idle e = refl
 pub ticked-inactive : {a : Adsr} → active a ≡ false → ticked a ≡ a
 unfolding active ticked
 ticked-inactive {a} e = rw (inactive-idle (a .phase) e)
-
--- ---- opened alone
-pub valid-triggeredEnvelope : {e : Envelope} → ValidEnvelope e → ValidEnvelope (triggeredEnvelope e)
-unfolding triggeredEnvelope
-valid-triggeredEnvelope h = record { inside = valid-triggered (h .inside) }
-
-pub valid-releasedEnvelope : {e : Envelope} → ValidEnvelope e → ValidEnvelope (releasedEnvelope e)
-unfolding releasedEnvelope
-valid-releasedEnvelope h = record { inside = valid-released (h .inside) }
-
-pub valid-tickedEnvelope : {e : Envelope} → ValidEnvelope e → ValidEnvelope (tickedEnvelope e)
-unfolding tickedEnvelope
-valid-tickedEnvelope h = record { inside = valid-ticked (h .inside) }

@@ -8,7 +8,7 @@ use lib.ListN.{length, replicate}
 use lib.Seq.{sets}
 use Rattle.laws.specs.Runs.{after, given}
 use Rattle.laws.proofs.Stores.{length-cells, sets-front}
-use Rattle.fixed.specs.Answers.{heard, Stops, Filled}
+use Rattle.fixed.specs.Answers.{heard, Filled}
 use Rattle.fixed.specs.declared.Given.{Given}
 use Rattle.fixed.specs.declared.Given.the-variants as G
 use Rattle.fm.specs.declared.FmVoice.{FmVoice}
@@ -22,18 +22,10 @@ unfolding heard
 heard-samples [] = refl
 heard-samples (s ∷ l) = ap (λ (r : List ℤ). s ∷ r) (heard-samples l)
 
-samples-stop : (l : List ℤ) → Stops (map G.Sample l)
-samples-stop [] = tt
-samples-stop (s ∷ l) = samples-stop l
-
 heard-none : (n : ℕ) → heard (replicate n G.None) ≡ []
 unfolding heard
 heard-none zero = refl
 heard-none (suc n) = heard-none n
-
-none-stop : (n : ℕ) → Stops (replicate n G.None)
-none-stop zero = tt
-none-stop (suc n) = heard-none n
 
 -- ---- an active oscillator: "FM never ends"
 next-active : (v : FmVoice) → v .active ≡ true → nextFm v ≡ advancedFm v
@@ -84,13 +76,6 @@ pub fm-silent : (n : ℕ) (v : FmVoice) → v .active ≡ false → heard (fmRun
 fm-silent n v e = ap heard (fm-run-none n v e) ∙ heard-none n
 
 -- ---- either
-pub fm-stops : (n : ℕ) (v : FmVoice) → Stops (fmRun n v)
-fm-stops n v = by-test (v .active) refl
-  where
-    by-test : (b : Bool) → v .active ≡ b → Stops (fmRun n v)
-    by-test true e = rw (fm-run n v e) (samples-stop (fmSamples n v))
-    by-test false e = rw (fm-run-none n v e) (none-stop n)
-
 active-kept : (v : FmVoice) → nextFm v .active ≡ v .active
 unfolding steppedFm
 active-kept v = by-test (v .active)

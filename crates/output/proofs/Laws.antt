@@ -1,7 +1,7 @@
 -- Laws of the definitions, by which callers and proofs bound what they give. Assumes nothing.
 use mathlib.Core.Path.{_≡_}
 use mathlib.Core.Bool.{Bool, true, false, cond}
-use Prim.Native.Nat.{ℕ, zero, suc, _+_, _-_, _*_, _/_, _^_, _≤_, _<_}
+use Prim.Native.Nat.{ℕ, zero, suc, _-_, _*_, _/_, _^_, _≤_, _<_}
 use native.Mathlib.Nat.{le-trans, lt-of-lt-of-le, mul-le-mul-right}
 use native.Mathlib.Omega.{arith}
 use borrow.Author.Tests.{le-ltb}
@@ -16,7 +16,7 @@ use Rattle.laws.proofs.Held.{Between, held-between}
 use Rattle.laws.proofs.Signed.{mag≤abs, mag-add, sub-size, pos-sub, abs≤, abs-fits, abs-quot, add≤, sub≤, mul≤}
 use Rattle.output.specs.Shapers.{level, shaped2ndOrder, ValidShaper, ValidShaped, fresh2ndOrder}
 use Rattle.output.specs.declared.PeriodRead.the-variants.{Accepted}
-use Rattle.output.specs.Duty.{duty, periodRead, freshMapper, mappedBy, mapped, ValidMapper, ValidMapped}
+use Rattle.output.specs.Duty.{duty, periodRead, mappedBy, mapped, ValidMapper, ValidMapped}
 use Rattle.output.specs.Levels.{raised}
 use Rattle.output.specs.declared.DutyMode.{DutyMode}
 use Rattle.output.specs.declared.DutyMode.the-variants as M
@@ -144,9 +144,6 @@ duty-most s p h = duty-between s p h .most
 -- "period 2: always 1"
 pub duty-of-2 : (s : ℤ) → duty s 2 ≡ 1
 duty-of-2 s = omega (arith, duty-least s 2 (omega arith), duty-most s 2 (omega arith))
-
-pub valid-fresh-mapper : (mode : DutyMode) → ValidMapper (freshMapper mode)
-valid-fresh-mapper mode = valid-fresh
 
 pub valid-mapped : (m : PwmMapper) (s : ℤ) (p : ℕ) → ValidMapper m → SFits w8 s → ValidMapped (mapped m s p)
 unfolding mapped

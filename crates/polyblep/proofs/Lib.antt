@@ -1,6 +1,6 @@
 -- Laws that callers of these functions cite, and what the proofs here share.
 --     Laws     an oscillator and a voice stay valid, for any number of samples; what a step is
---     Runs     requests one after another: blep-stops, blep-quiet, blep-rests, blep-silent, valid-after
+--     Runs     requests one after another: valid-after
 --     Turn     the remainder of the sine changes nothing at a phase
 --     Examples document 01's first samples, computed
 --     Ranges   where a float lies, from an order and in the words of the comparisons

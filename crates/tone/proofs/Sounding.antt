@@ -10,7 +10,7 @@ use lib.Dec.{ltb, eqb}
 use lib.IntN.{ℤ}
 use lib.ListN.{length}
 use Rattle.laws.specs.Runs.{after, given}
-use Rattle.fixed.specs.Answers.{heard, Stops, Filled}
+use Rattle.fixed.specs.Answers.{heard, Filled}
 use Rattle.fixed.specs.declared.Given.{Given}
 use Rattle.fixed.specs.declared.Given.the-variants as G
 use Rattle.tone.specs.Blocks.{Waved, lessBy}
@@ -112,24 +112,6 @@ module _ {P S : Type 0} {move : P → P} {wave : P → ℤ} {at : P → ℕ → 
   ended (suc n) p (suc left) h k =
       rw (c .sample p (suc left) (omega arith), c .moves p (suc left) (omega arith), less-suc left k)
       (ap (λ (l : List ℤ). wave p ∷ l) (ended n (move p) left (omega arith) (omega arith)))
-
-  -- once none is given, none is given from then on
-  pub stops : (n : ℕ) (p : P) (left : ℕ) (a : Bool) → Stops (run step gives n (at p left a))
-  unfolding given
-  stops zero p left a = tt
-  stops (suc n) p left false = rw (c .none p left, c .rests p left) (silent n p left)
-  stops (suc n) p zero true = rw (c .end p, c .ends p) (silent n p 0)
-  stops (suc n) p (suc left) true = rw (c .sample p (suc left) (omega arith), c .moves p (suc left) (omega arith)) (stops n (move p) (lessOne (suc left)) true)
-
-  -- and the source is inactive
-  pub quiet : (n : ℕ) (p : P) (left : ℕ) (a : Bool) → length (heard (run step gives n (at p left a))) < n → active (after step n (at p left a)) ≡ false
-  unfolding after given heard
-  quiet zero p left a h = absurd (omega arith)
-  quiet (suc n) p left false h = rw (c .rests p left, resting n p left) (c .flag p left false)
-  quiet (suc n) p zero true h = rw (c .ends p, resting n p 0) (c .flag p 0 false)
-  quiet (suc n) p (suc left) true h =
-      let g = rw (c .sample p (suc left) (omega arith), c .moves p (suc left) (omega arith)) at h in
-      rw (c .moves p (suc left) (omega arith)) (quiet n (move p) (lessOne (suc left)) true (omega (arith, g)))
 
   -- a block: where n are asked for, the first `min left n` are given
   module _ (n : ℕ) (p : P) (left : ℕ) (short : n < forever) where

@@ -18,7 +18,8 @@ use Rattle.output.specs.declared.PwmMapper.{PwmMapper}
 use Rattle.frame.specs.Frames.{withMapper}
 use Rattle.frame.specs.Runs.{monoStep, dutyStep, duties}
 use Rattle.frame.proofs.Laws.{valid-mapper}
-use Rattle.buffers.proofs.Periods.{accepted, period-is, not-refused}
+use Rattle.output.proofs.Laws.{period-accepted}
+use Rattle.buffers.proofs.Periods.{period-is, not-refused}
 use Rattle.buffers.specs.Buffers.{mappedOver, dutiesOver}
 use Rattle.buffers.proofs.Fill.{pcm, row, block-cells, block-long}
 use Rattle.buffers.proofs.Duties.{run-keeps, duty-after, duty-given}
@@ -53,7 +54,7 @@ returns c =
     let k : min (s .args .n) 256 ≡ s .args .n = omega (arith, few .0) in
     let v = b .mono-block .ensures .mixer in
     let same = v .same ∙ ap (λ (i : ℕ). after monoStep i (s .args .m)) k in
-    let per = period-is _ _ (sym (p .period .given .1) ∙ n .new .ensures .same ∙ accepted _ (v .valid .period)) in
+    let per = period-is _ _ (sym (p .period .given .1) ∙ n .new .ensures .same ∙ period-accepted _ (v .valid .period)) in
     let cells = block-cells monoStep pcm (s .args .n) (s .args .m) _ _ (few .0) (b .mono-block .ensures .cells) in (
       record {
         same = state-is (s .args .m) (b .mono-block .result) (s .args .n) _ _ same per cells (d .put-duties .result) (d .put-duties .ensures .0 .same);
@@ -67,7 +68,7 @@ returns-2 c =
     let p = c .before in
     let n = p .before .before in
     let b = n .before .before .before in
-    not-refused _ _ (sym (n .new .ensures .same ∙ accepted _ (b .mono-block .ensures .mixer .valid .period)) ∙ p .e .given .1)
+    not-refused _ _ (sym (n .new .ensures .same ∙ period-accepted _ (b .mono-block .ensures .mixer .valid .period)) ∙ p .e .given .1)
 
 pub duty-block-spec : {M : Type 1} → statement M
 duty-block-spec =

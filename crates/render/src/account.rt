@@ -76,8 +76,8 @@ fn faded(l: &[u8], text: &[u8], c: Clock) {
     ended(byte_at(text, 0));
 }
 
-// A frequency and how long; 0 ms never ends.
-fn sounding(l: &[u8]) {
+// A frequency and how long; 0 ms never ends, and a box of no voices has none to sound it.
+fn sounding(l: &[u8], before: Session) {
     count(long_at(l, 1) as u64);
     say(b" Hz");
     let ms = wide_at(l, 5);
@@ -88,10 +88,14 @@ fn sounding(l: &[u8]) {
         count(ms as u64);
         say(b" ms");
     }
+    let e = before.engine;
+    if e.voice_count() == 0 {
+        say(b": there are no voices");
+    }
     ended(0);
 }
 
-fn toned(l: &[u8], c: Clock) {
+fn toned(l: &[u8], before: Session, c: Clock) {
     time(c);
     match byte_at(l, 7) {
         0 => say(b"square"),
@@ -99,10 +103,10 @@ fn toned(l: &[u8], c: Clock) {
         _ => say(b"triangle"),
     }
     say(b" tone of ");
-    sounding(l);
+    sounding(l, before);
 }
 
-fn polybleped(l: &[u8], c: Clock) {
+fn polybleped(l: &[u8], before: Session, c: Clock) {
     time(c);
     say(b"PolyBLEP ");
     match byte_at(l, 7) {
@@ -112,7 +116,7 @@ fn polybleped(l: &[u8], c: Clock) {
         _ => say(b"triangle"),
     }
     say(b" of ");
-    sounding(l);
+    sounding(l, before);
 }
 
 fn stopped(c: Clock) {
@@ -148,8 +152,8 @@ pub fn tell(l: &[u8], text: &[u8], before: Session, c: Clock)
         0x11 => banked(l, text, c),
         0x13 => played(l, text, before, c),
         0x14 => faded(l, text, c),
-        0x15 => toned(l, c),
-        0x16 => polybleped(l, c),
+        0x15 => toned(l, before, c),
+        0x16 => polybleped(l, before, c),
         0x19 => stopped(c),
         0x1a..=0x1c => {
             let number = byte_at(text, 0);

@@ -34,7 +34,9 @@ pub fn stopped(r: Run) -> Run
     Run { place, ..r }
 }
 
-pub fn rate_of(s: Session) -> u32 {
+pub fn rate_of(s: Session) -> u32
+    ensures { λ r. ⌜ r ≡ s .engine .state .config .«sample_rate_hz» ⌝ }
+{
     let e = s.engine;
     let c = e.config();
     c.sample_rate_hz

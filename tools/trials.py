@@ -21,7 +21,7 @@ class Verdict:
 
     def __init__(self, status, text):
         self.text = text
-        errors = [line for line in text.splitlines() if re.search(r"(: error\b|^error|: no proof: )", line)]
+        errors = [line for line in text.splitlines() if re.search(r"(: error: |^error: |: no proof: )", line)]
         self.first = errors[0] if errors else ""
         if status == 0 and re.search(r"^logic=proved", text, re.M):
             self.kind = "proved"

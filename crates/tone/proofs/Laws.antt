@@ -45,4 +45,3 @@ tone-counted v =
       none = λ p left. refl;
       flag = λ p left a. refl;
     }
-

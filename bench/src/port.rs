@@ -1,66 +1,10 @@
-//! The port, over its static library. The declarations are those of crates/exports; nothing but these lines ties them to it.
+//! The port, over its static library, by the bare declarations of the crate for Rust: its safe functions would copy the requests.
+
+use birchjack::raw::{birchjack_duty, birchjack_find, birchjack_pcm_i16, birchjack_play, birchjack_stereo_i16};
 
 use crate::job::{Script, Side};
 
 pub struct Port;
-
-// A slice is a pointer and then a length.
-unsafe extern "C" {
-    fn birchjack_find(
-        bytes: *const u8,
-        bytes_len: usize,
-        sample_rate_hz: u32,
-        effect_count: u16,
-        id: u16,
-        out: *mut [u32; 8],
-    ) -> u8;
-    fn birchjack_play(
-        n: usize,
-        bytes: *const u8,
-        bytes_len: usize,
-        sample_rate_hz: u32,
-        effect_count: u16,
-        requests: *const u8,
-        requests_len: usize,
-    ) -> usize;
-    fn birchjack_pcm_i16(
-        n: usize,
-        bytes: *const u8,
-        bytes_len: usize,
-        sample_rate_hz: u32,
-        effect_count: u16,
-        requests: *const u8,
-        requests_len: usize,
-        polyblep_hz: u32,
-        out: *mut i16,
-        out_len: usize,
-    ) -> usize;
-    fn birchjack_stereo_i16(
-        n: usize,
-        bytes: *const u8,
-        bytes_len: usize,
-        sample_rate_hz: u32,
-        effect_count: u16,
-        requests: *const u8,
-        requests_len: usize,
-        polyblep_hz: u32,
-        out: *mut i16,
-        out_len: usize,
-    ) -> usize;
-    fn birchjack_duty(
-        n: usize,
-        mode: u8,
-        bytes: *const u8,
-        bytes_len: usize,
-        sample_rate_hz: u32,
-        effect_count: u16,
-        requests: *const u8,
-        requests_len: usize,
-        polyblep_hz: u32,
-        out: *mut u16,
-        out_len: usize,
-    ) -> usize;
-}
 
 type Pcm = unsafe extern "C" fn(
     usize,

@@ -11,7 +11,7 @@ struct Page;
 
 mod bank;
 mod player;
-mod raw;
+pub mod raw;
 mod refusal;
 mod script;
 

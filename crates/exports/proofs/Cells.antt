@@ -1,4 +1,4 @@
--- Cells that are all written. Assumes nothing.
+-- Cells that are all written, one after another. Assumes nothing.
 use Prim.Native.Nat.{ℕ, zero, suc, _+_, _-_, _≤_, _<_}
 use mathlib.Core.Path.{_≡_, refl, sym, ap, _∙_}
 use mathlib.Core.List.{List, [], _∷_, _++_, append-nil}
@@ -8,7 +8,7 @@ use lib.ListN.{length, drop, set}
 use lib.Seq.{sets, sets-eq, drop-length}
 use Rattle.laws.specs.Runs.{after, given}
 
-pub whole : {A : Type 0} (cells xs : List A) → length cells ≡ length xs → sets cells 0 xs ≡ xs
+whole : {A : Type 0} (cells xs : List A) → length cells ≡ length xs → sets cells 0 xs ≡ xs
 whole cells xs h =
     let z : 0 + length xs ≡ length cells = omega arith in
     sets-eq xs cells 0 (omega arith) ∙ rw (z, drop-length cells) (append-nil xs)
@@ -18,7 +18,7 @@ module _ {S A : Type 0} (step : S → S) (one : S → A) where
   abbrev values : ℕ → S → List A
   values n s = given step (λ s. one s ∷ []) n s
 
-  pub length-values : (n : ℕ) (s : S) → length (values n s) ≡ n
+  length-values : (n : ℕ) (s : S) → length (values n s) ≡ n
   unfolding given
   length-values zero s = refl
   length-values (suc n) s = ap suc (length-values n (step s))

@@ -1,3 +1,5 @@
 -- How the calls for other languages are proved.
---     Cells    cells that are all written; a run's answers, one to a cell
+--     Cells    a run's values, one to a cell
+--     Laws     what callers cite: a payload that is there is within the bytes
 mod Cells
+pub mod Laws

@@ -80,7 +80,7 @@ class Copy:
         self.prepare(crate)
         inc, clean = self.checked(crate)
         shutil.rmtree(inc, ignore_errors=True)
-        subprocess.run(["cp", "-a", clean, inc], check=True)
+        subprocess.run(["cp", "-al", clean, inc], check=True)  # links: the checker writes a file anew
         kept = {}
         try:
             for name, text in files.items():

@@ -1,8 +1,10 @@
-//! Links the port's static library, which `rt staticlib exports` makes.
+//! Links the port's two static libraries, which `rt staticlib exports` and `rt staticlib runs` make.
 
 fn main() {
     let lib = concat!(env!("CARGO_MANIFEST_DIR"), "/../../target/staticlib");
     println!("cargo:rustc-link-search=native={lib}");
-    println!("cargo:rustc-link-lib=static=exports");
-    println!("cargo:rerun-if-changed={lib}/libexports.a");
+    for name in ["exports", "runs"] {
+        println!("cargo:rustc-link-lib=static={name}");
+        println!("cargo:rerun-if-changed={lib}/lib{name}.a");
+    }
 }

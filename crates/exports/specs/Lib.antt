@@ -4,10 +4,8 @@
 --     Levels    an envelope alone
 --     Banks     a bank that is set for one call
 --     Plays     an engine that lives for one call
---     Scripts   a whole script
 pub mod Told
 pub mod Leaves
 pub mod Levels
 pub mod Banks
 pub mod Plays
-pub mod Scripts

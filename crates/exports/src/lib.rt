@@ -4,4 +4,3 @@ mod banks;
 mod leaves;
 mod levels;
 mod plays;
-mod scripts;

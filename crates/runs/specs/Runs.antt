@@ -57,3 +57,7 @@ pub record Poured {A : Type 0} (all : List A) (allGood : Bool) (before after : L
   pub content : after ≡ take (length before) all ++ drop (length all) before
   pub len : r .len ≡ capped (length all)
   pub good : r .good ≡ allGood
+
+-- a run's length and whether it was good, as two answers
+abbrev pub ran : ℕ → Bool → Ran
+ran len good = record { len = len; good = good }

@@ -4,6 +4,7 @@ ghost use Rattle.runs.specs.Runs.{answers, sounds, isGood, Poured};
 use session::Session;
 
 mod cut;
+mod hosts;
 mod put;
 
 // How much the lines tell, in bytes or cells, and whether none of them is bad.

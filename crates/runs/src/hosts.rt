@@ -1,14 +1,13 @@
-// A whole replay script, to what its lines are answered and to their sound. As much as there is room for is written, and the length of all of
+// For C and Rust: a whole replay script, to what its lines are answered and to their sound. As much as there is room for is written, and the length of all of
 // it is the answer, as C's snprintf has it: all is there where that is at most the buffer's length.
-ghost use Rattle.runs.specs.Runs.{answers, sounds, isGood, Poured};
-ghost use Rattle.exports.specs.Scripts.{ran};
+ghost use Rattle.runs.specs.Runs.{answers, sounds, isGood, Poured, ran};
 
 // The answers, line by line, and whether no line is bad.
 #[no_mangle]
 pub extern "C" fn birchjack_answers(script: &[u8], out: &mut [u8], good: &mut bool) -> usize
     ensures { λ r. ⌜ Poured (answers (now (script .entry))) (isGood (now (script .entry))) (now (out .entry)) (now (out .exit)) (ran r (now (good .exit))) ⌝ }
 {
-    let a = runs::answers(script, out);
+    let a = crate::answers(script, out);
     *good = a.good;
     a.len
 }
@@ -18,7 +17,7 @@ pub extern "C" fn birchjack_answers(script: &[u8], out: &mut [u8], good: &mut bo
 pub extern "C" fn birchjack_sound(script: &[u8], out: &mut [i16], good: &mut bool) -> usize
     ensures { λ r. ⌜ Poured (sounds (now (script .entry))) (isGood (now (script .entry))) (now (out .entry)) (now (out .exit)) (ran r (now (good .exit))) ⌝ }
 {
-    let s = runs::sound(script, out);
+    let s = crate::sound(script, out);
     *good = s.good;
     s.len
 }

@@ -3,9 +3,11 @@ reaches is proved again. A refusal found so is a refusal; that a crate is proved
 import os
 import re
 import shutil
+import signal
 import subprocess
 import tempfile
 import threading
+from contextlib import contextmanager
 from pathlib import Path
 
 ROOT = Path(__file__).resolve().parent.parent
@@ -75,25 +77,48 @@ class Copy:
         inc.rename(clean)
         self.ready.add(crate)
 
-    def attempt(self, crate, files):
-        """The verdict on the crate with these files (paths below the crate, texts)."""
-        self.prepare(crate)
-        inc, clean = self.checked(crate)
-        shutil.rmtree(inc, ignore_errors=True)
-        subprocess.run(["cp", "-al", clean, inc], check=True)  # links: the checker writes a file anew
+    @contextmanager
+    def changed(self, crate, files):
+        """The copy with these files of the crate (paths below it, texts)."""
         kept = {}
         try:
             for name, text in files.items():
                 path = self.root / "crates" / crate / name
                 kept[path] = path.read_bytes()
                 path.write_bytes(text.encode())
-            return self.dev(crate)
+            yield
         finally:
             for path, text in kept.items():
                 path.write_bytes(text)
 
+    def attempt(self, crate, files):
+        """The verdict on the crate with these files."""
+        self.prepare(crate)
+        inc, clean = self.checked(crate)
+        shutil.rmtree(inc, ignore_errors=True)
+        subprocess.run(["cp", "-al", clean, inc], check=True)  # links: the checker writes a file anew
+        with self.changed(crate, files):
+            return self.dev(crate)
 
-def run_all(trials, report):
+    def runs_alike(self, program, files):
+        """Whether the program with these files writes what it did: in `rt check`'s run and in every case of tests/."""
+        commands = (["rt", "check", program], [ROOT / "tools/programs", "--bin", self.root / "target/bin", program])
+        with self.changed(program, files):
+            return all(ends_well(command, self.root) for command in commands)
+
+
+def ends_well(command, folder):
+    """Whether a command ends with status 0 in two minutes."""
+    run = subprocess.Popen(command, cwd=folder, stdout=subprocess.DEVNULL, stderr=subprocess.DEVNULL, start_new_session=True)
+    try:
+        return run.wait(120) == 0
+    except subprocess.TimeoutExpired:
+        os.killpg(run.pid, signal.SIGKILL)
+        run.wait()
+        return False
+
+
+def run_all(trials, report, attempt=Copy.attempt):
     """Tries (crate, label, files) one after another, each crate's together, and hands (crate, label, verdict) to report."""
     groups = {}
     for crate, label, files in trials:
@@ -110,7 +135,7 @@ def run_all(trials, report):
                     return
                 crate, group = parts.pop(0)
             for label, files in group:
-                verdict = copy.attempt(crate, files)
+                verdict = attempt(copy, crate, files)
                 with lock:
                     report(crate, label, verdict)
 

@@ -1,5 +1,5 @@
 -- The sound file as it is kept, and times in it. Assumes nothing.
-use Prim.Native.Nat.{ℕ, _+_, _*_, _/_, _≤_, min}
+use Prim.Native.Nat.{ℕ, _+_, _*_, _/_, min}
 use mathlib.Core.Path.{_≡_}
 use mathlib.Core.Bool.{Bool, true, false, cond, not, _&&_}
 use mathlib.Core.List.{List, _++_}
@@ -7,14 +7,10 @@ use lib.Dec.{leb, ltb, eqb}
 use lib.IntN.{ℤ}
 use lib.ListN.{length, take}
 use Rattle.wav.specs.Wav.{wavFits, cellBytes}
-use Rattle.render.specs.declared.words.Clock.{Clock}
+use Rattle.texts.specs.declared.Clock.{Clock}
 use Rattle.render.specs.declared.file.SoundFile.{SoundFile}
 use Rattle.render.specs.declared.file.Room.{Room}
 use Rattle.render.specs.declared.file.Room.the-variants as R
-
--- whole milliseconds; 0 where there is no rate yet
-abbrev pub millisecondsOf : Clock → ℕ
-millisecondsOf c = cond (eqb (c .rate) 0) 0 (c .frames * 1000 / c .rate)
 
 -- how many times 10 s have passed
 abbrev pub tensOf : Clock → ℕ
@@ -23,6 +19,10 @@ tensOf c = cond (eqb (c .rate) 0) 0 (c .frames / (10 * c .rate))
 -- frames and some more, held to 32 bits
 abbrev pub moreFrames : ℕ → ℕ → ℕ
 moreFrames frames more = min (frames + more) 0xFFFF_FFFF
+
+-- a file without frames has the engine's rate, or 44,100 where that is 0, which players turn down
+abbrev pub rateOfNone : ℕ → ℕ
+rateOfNone rate = cond (eqb rate 0) 44100 rate
 
 -- the rate changed after the first frame
 abbrev pub otherRate : Clock → ℕ → Bool

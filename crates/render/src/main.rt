@@ -1,24 +1,22 @@
 // render OUT.wav [SCRIPT]: runs a replay script, writes what it sounds like to OUT.wav and a short account to standard output. What a
-// line does is `session`'s, what it sounds like is `sounds`', and how a file is laid out is `wav`'s.
-mod account;
+// line does is `session`'s, what it sounds like is `sounds`', what is told of it is `account`'s, and how a file is laid out is `wav`'s.
 mod file;
 mod problems;
 mod steps;
-mod words;
 
 ghost use Prim.Native.Nat.{_≤_};
+ghost use mathlib.Core.Path.{_≡_};
+ghost use Rattle.render.specs.Files.{rateOfNone};
 use file::SoundFile;
 use file::flushed;
 use file::write_header;
 use session::Session;
 use steps::Place;
 use steps::Run;
+use steps::print;
 use steps::rate_of;
 use steps::read_some;
-use words::Clock;
-use words::count;
-use words::say;
-use words::seconds;
+use texts::Clock;
 
 // The script's descriptor, or -1 where it cannot be opened: the second argument's, or else standard input.
 fn script() -> i32 {
@@ -34,29 +32,33 @@ fn script() -> i32 {
     fd
 }
 
-// The account's last line.
-fn total(c: Clock) {
-    seconds(c);
-    say(b" of sound at ");
-    count(c.rate as u64);
-    say(b" Hz, ");
-    count(4 * (c.frames as u64));
-    say(b" bytes of samples\n");
+// The rate of a file without frames: the engine's at the end, or one that players take where that is 0.
+fn rate_of_none(rate: u32) -> u32
+    ensures { λ r. ⌜ r ≡ rateOfNone rate ⌝ }
+{
+    if rate == 0 { 44100 } else { rate }
 }
 
-// Writes what is held back and the header, and says how much sound there is. A file without frames has the rate that the engine has at
-// the end.
+// What the header says of the sound that was made.
+fn last_clock(c: Clock, rate: u32) -> Clock {
+    if c.frames > 0 {
+        return c;
+    }
+    problems::no_frames();
+    Clock {
+        frames: 0,
+        rate: rate_of_none(rate),
+    }
+}
+
+// Writes what is held back and the header, and says how much sound there is.
 fn finish(path: &[u8], f: SoundFile, rate: u32, kept: &[u8; 65536])
     requires { ⌜ f .held ≤ 65536 ⌝ }
 {
     let g = flushed(f, kept);
-    let c = g.clock;
-    let clock = Clock {
-        rate: if c.frames == 0 { rate } else { c.rate },
-        ..c
-    };
+    let clock = last_clock(g.clock, rate);
     if write_header(g.fd, clock) && g.is_written {
-        total(clock);
+        print(account::total(clock));
     } else {
         os::fail(path);
     }

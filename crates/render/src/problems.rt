@@ -2,8 +2,8 @@
 ghost use mathlib.Core.Path.{_≡_};
 ghost use Rattle.render.specs.Files.{tensOf, fits};
 use crate::file::Room;
-use crate::words::Clock;
 use libc::STDERR_FILENO;
+use texts::Clock;
 
 fn note(words: &[u8]) {
     io::write_all(STDERR_FILENO, words);
@@ -25,6 +25,10 @@ pub fn bad_line(number: u64) {
         number,
         b"no record, or one that needs an open engine; the sound up to here is kept\n",
     );
+}
+
+pub fn no_frames() {
+    note(b"render: the script has no frames, and the file has none\n");
 }
 
 // Says why frames cannot go on to the file, and answers whether they can.

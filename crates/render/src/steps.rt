@@ -3,14 +3,14 @@ ghost use mathlib.Core.Path.{_≡_};
 ghost use Prim.Native.Nat.{_≤_};
 ghost use lib.ListN.{length};
 ghost use Rattle.render.specs.Runs.{ValidRun};
-use crate::account::tell;
 use crate::file::SoundFile;
 use crate::file::add;
 use crate::file::room_for;
 use crate::problems;
-use crate::words::Clock;
+use libc::STDOUT_FILENO;
 use session::Session;
 use std::num::wrapping_add_u64;
+use texts::Text;
 
 // How much of a line is kept, how many lines there were, and whether the run goes on.
 pub struct Place {
@@ -42,6 +42,13 @@ pub fn rate_of(s: Session) -> u32
     c.sample_rate_hz
 }
 
+pub fn print(t: Text)
+    requires { ⌜ t .len ≤ 256 ⌝ }
+{
+    let bytes = t.bytes;
+    io::write_all(STDOUT_FILENO, &bytes[..t.len]);
+}
+
 // Answers a line and tells it in the account. A line that is no record ends the run.
 fn answered(r: Run, l: &[u8], lent: &mut [u8; 4096], out: &mut [u8; 262144]) -> Run
     requires { ⌜ ValidRun r ⌝ }
@@ -55,7 +62,7 @@ fn answered(r: Run, l: &[u8], lent: &mut [u8; 4096], out: &mut [u8; 262144]) -> 
         problems::bad_line(p.number);
         return stopped(r);
     }
-    tell(l, &*out, before, f.clock);
+    print(account::tell(l, &*out, before.engine, f.clock));
     let after = a.session;
     Run {
         session: after,

@@ -1,14 +1,13 @@
 -- `render::file::add` meets its contract: what stays held back leaves room for all the cells, which then stand behind it.
 use borrow.Author.Needs.{needs}
-use mathlib.Core.Path.{_≡_, sym, ap, _∙_}
+use mathlib.Core.Path.{_≡_, sym, _∙_}
 use mathlib.Core.List.{List}
-use Prim.Native.Nat.{ℕ, _+_, _-_, _*_, _/_, _≤_}
+use Prim.Native.Nat.{ℕ, _-_, _*_, _≤_}
 use native.Mathlib.Omega.{arith}
 use lib.ListN.{length, take, drop, length-take, length-drop}
 use lib.Seq.{length-take-le}
 use mir.Syntax.{w32}
 use Rattle.hex.proofs.Bits.{back}
-use Rattle.render.specs.Files.{moreFrames}
 use Rattle.render.proofs.Holding.{few-held, got-all, behind}
 use Rattle.render.proofs.file.add.Statement.{statement}
 use Rattle.render.proofs.file.add.Tie as tie

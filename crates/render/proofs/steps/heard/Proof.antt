@@ -1,7 +1,6 @@
 -- `render::steps::heard` is safe and keeps the run valid: the cells are within the line's, and what is held back within its buffer.
 use borrow.Author.Needs.{needs}
 use mathlib.Core.Path.{_≡_, sym}
-use Prim.Native.Nat.{_≤_}
 use native.Mathlib.Omega.{arith}
 use lib.ListN.{length, take}
 use lib.Seq.{length-take-le}

@@ -1,8 +1,8 @@
--- `render::words::milliseconds` meets its contract: the test is the definition's.
+-- `texts::milliseconds` meets its contract: the test is the definition's.
 use borrow.Author.Needs.{needs}
 use borrow.Author.Tests.{eq-eqb, ne-eqb}
-use Rattle.render.proofs.words.milliseconds.Statement.{statement}
-use Rattle.render.proofs.words.milliseconds.Tie as tie
+use Rattle.texts.proofs.milliseconds.Statement.{statement}
+use Rattle.texts.proofs.milliseconds.Tie as tie
 
 returns : tie.Need-returns
 returns c = rw (eq-eqb _ _ (c .if1 .taken))

@@ -25,15 +25,11 @@ end-within : (n : ℕ) → length (T.endText n) ≤ 89
 unfolding T.endText
 end-within n = either-within 89 (eqb n 0) _ _ (omega arith) (simp length-append (omega (arith, decimal-within n, why-within n)))
 
-open-within : (l answer : List ℕ) (c : Clock) → length (T.openText l answer c) ≤ 256
-unfolding T.openText
-open-within l answer c =
-    simp length-append (omega (arith, time-within c, things-within (byteAt l 1) (words " voice"), decimal-within (longAt l 2), end-within (byteAt answer 0)))
-
-bank-within : (l answer : List ℕ) (c : Clock) → length (T.bankText l answer c) ≤ 256
-unfolding T.bankText
-bank-within l answer c =
-    simp length-append (omega (arith, time-within c, things-within (wideAt l 5) (words " sound"), decimal-within (longAt l 1), end-within (byteAt answer 0)))
+count-within : (head : List ℕ) (n : ℕ) (name : List ℕ) (hz : ℕ) (answer : List ℕ) (c : Clock) → length head ≤ 14 → length name ≤ 6
+    → length (T.countText head n name hz answer c) ≤ 256
+unfolding T.countText
+count-within head n name hz answer c h k =
+    simp length-append (omega (arith, h, k, time-within c, things-within n name, decimal-within hz, end-within (byteAt answer 0)))
 
 taken-within : (v : VoiceRead) → length (T.takenText v) ≤ 42
 taken-within R.None = omega arith
@@ -92,8 +88,8 @@ pub line-within : (l answer : List ℕ) (e : AudioEngine) (c : Clock) → length
 unfolding T.lineText
 line-within l answer e c =
     let code = byteAt l 0 in
-    either-within 256 (eqb code 0x10) _ _ (open-within l answer c)
-    (either-within 256 (eqb code 0x11) _ _ (bank-within l answer c)
+    either-within 256 (eqb code 0x10) _ _ (count-within (words "open ") (byteAt l 1) (words " voice") (longAt l 2) answer c (omega arith) (omega arith))
+    (either-within 256 (eqb code 0x11) _ _ (count-within (words "set a bank of ") (wideAt l 5) (words " sound") (longAt l 1) answer c (omega arith) (omega arith))
     (either-within 256 (eqb code 0x13) _ _ (play-within l answer e c)
     (either-within 256 (eqb code 0x14) _ _ (fade-within l answer c)
     (either-within 256 (eqb code 0x15) _ _ (tone-within l e c)

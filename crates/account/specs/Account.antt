@@ -39,12 +39,16 @@ numberIn answer = byteAt answer 0
 abbrev pub voiceIn : List ℕ → ℕ
 voiceIn answer = byteAt answer 1
 
-unfoldable pub openText : List ℕ → List ℕ → Clock → List ℕ
-openText l answer c = timeText c ++ words "open " ++ things (byteAt l 1) (words " voice") ++ words " at " ++ decimal (longAt l 2) ++ words " Hz" ++ endText (numberIn answer)
+-- so many things at a rate: opening, and setting a bank
+unfoldable pub countText : List ℕ → ℕ → List ℕ → ℕ → List ℕ → Clock → List ℕ
+countText head n name hz answer c =
+    timeText c ++ head ++ things n name ++ words " at " ++ decimal hz ++ words " Hz" ++ endText (numberIn answer)
 
-unfoldable pub bankText : List ℕ → List ℕ → Clock → List ℕ
-bankText l answer c =
-    timeText c ++ words "set a bank of " ++ things (wideAt l 5) (words " sound") ++ words " at " ++ decimal (longAt l 1) ++ words " Hz" ++ endText (numberIn answer)
+abbrev pub openText : List ℕ → List ℕ → Clock → List ℕ
+openText l answer c = countText (words "open ") (byteAt l 1) (words " voice") (longAt l 2) answer c
+
+abbrev pub bankText : List ℕ → List ℕ → Clock → List ℕ
+bankText l answer c = countText (words "set a bank of ") (wideAt l 5) (words " sound") (longAt l 1) answer c
 
 -- whose voice it was, where it was audible
 abbrev pub takenText : VoiceRead → List ℕ

@@ -1,6 +1,6 @@
 // What a person is told of a line of a script that was answered. The answer's text has the number first, then the voice.
 ghost use mathlib.Core.List.{_++_};
-ghost use Rattle.texts.specs.Texts.{Says, Tells, Adds};
+ghost use Rattle.texts.specs.Texts.{Says, Tells, Adds, decimal};
 ghost use Rattle.engine.specs.Engines.{ValidEngine};
 ghost use Rattle.account.specs.Account as T;
 
@@ -22,22 +22,26 @@ use words::ended;
 use words::sounding;
 use words::voiced;
 
+fn counted(head: &[u8], n: u64, name: &[u8], hz: u32, answer: &[u8], c: Clock) -> Text
+    ensures { λ r. ⌜ Says (T.countText (now (head .entry)) n (now (name .entry)) hz (now (answer .entry)) c) r ⌝ }
+{
+    let all = things(say(at_time(c), head), n, name);
+    let rate = count(say(all, b" at "), hz as u64);
+    ended(say(rate, b" Hz"), byte_at(answer, 0))
+}
+
 fn opened(l: &[u8], answer: &[u8], c: Clock) -> Text
     ensures { λ r. ⌜ Says (T.openText (now (l .entry)) (now (answer .entry)) c) r ⌝ }
 {
-    let head = say(at_time(c), b"open ");
-    let voices = things(head, byte_at(l, 1) as u64, b" voice");
-    let rate = count(say(voices, b" at "), long_at(l, 2) as u64);
-    ended(say(rate, b" Hz"), byte_at(answer, 0))
+    let n = byte_at(l, 1) as u64;
+    counted(b"open ", n, b" voice", long_at(l, 2), answer, c)
 }
 
 fn banked(l: &[u8], answer: &[u8], c: Clock) -> Text
     ensures { λ r. ⌜ Says (T.bankText (now (l .entry)) (now (answer .entry)) c) r ⌝ }
 {
-    let head = say(at_time(c), b"set a bank of ");
-    let sounds = things(head, wide_at(l, 5) as u64, b" sound");
-    let rate = count(say(sounds, b" at "), long_at(l, 1) as u64);
-    ended(say(rate, b" Hz"), byte_at(answer, 0))
+    let n = wide_at(l, 5) as u64;
+    counted(b"set a bank of ", n, b" sound", long_at(l, 1), answer, c)
 }
 
 fn played(l: &[u8], answer: &[u8], e: AudioEngine, c: Clock) -> Text
@@ -102,15 +106,21 @@ fn stopped(c: Clock) -> Text
     say(at_time(c), b"stop\n")
 }
 
-fn searched(l: &[u8], answer: &[u8], c: Clock) -> Text
-    ensures { λ r. ⌜ Says (T.askText (T.searchQuestion (now (l .entry))) (now (answer .entry)) c) r ⌝ }
+// A question with a number in it.
+fn asked(head: &[u8], n: u64, answer: &[u8], c: Clock) -> Text
+    ensures { λ r. ⌜ Says (T.askText (now (head .entry) ++ decimal n) (now (answer .entry)) c) r ⌝ }
 {
     let number = byte_at(answer, 0);
     if number == 0 {
         return empty();
     }
-    let id = count(say(at_time(c), b"search for "), wide_at(l, 1) as u64);
-    ended(id, number)
+    ended(count(say(at_time(c), head), n), number)
+}
+
+fn searched(l: &[u8], answer: &[u8], c: Clock) -> Text
+    ensures { λ r. ⌜ Says (T.askText (T.searchQuestion (now (l .entry))) (now (answer .entry)) c) r ⌝ }
+{
+    asked(b"search for ", wide_at(l, 1) as u64, answer, c)
 }
 
 fn looked_up(answer: &[u8], c: Clock) -> Text
@@ -126,15 +136,12 @@ fn looked_up(answer: &[u8], c: Clock) -> Text
 fn allocated(l: &[u8], answer: &[u8], c: Clock) -> Text
     ensures { λ r. ⌜ Says (T.askText (T.voiceQuestion (now (l .entry))) (now (answer .entry)) c) r ⌝ }
 {
-    let number = byte_at(answer, 0);
-    if number == 0 {
-        return empty();
-    }
-    let priority = count(
-        say(at_time(c), b"find a voice at priority "),
+    asked(
+        b"find a voice at priority ",
         byte_at(l, 1) as u64,
-    );
-    ended(priority, number)
+        answer,
+        c,
+    )
 }
 
 // Frames, and calls that only ask and are answered, have no line in the account.

@@ -24,6 +24,10 @@ moreFrames frames more = min (frames + more) 0xFFFF_FFFF
 abbrev pub rateOfNone : ℕ → ℕ
 rateOfNone rate = cond (eqb rate 0) 44100 rate
 
+-- what the header says of the sound
+abbrev pub lastClock : Clock → ℕ → Clock
+lastClock c rate = cond (ltb 0 (c .frames)) c (record { frames = 0; rate = rateOfNone rate })
+
 -- the rate changed after the first frame
 abbrev pub otherRate : Clock → ℕ → Bool
 otherRate c rate = ltb 0 (c .frames) && not (eqb (c .rate) rate)

@@ -6,7 +6,7 @@ mod steps;
 
 ghost use Prim.Native.Nat.{_≤_};
 ghost use mathlib.Core.Path.{_≡_};
-ghost use Rattle.render.specs.Files.{rateOfNone};
+ghost use Rattle.render.specs.Files.{rateOfNone, lastClock};
 use file::SoundFile;
 use file::flushed;
 use file::write_header;
@@ -40,7 +40,9 @@ fn rate_of_none(rate: u32) -> u32
 }
 
 // What the header says of the sound that was made.
-fn last_clock(c: Clock, rate: u32) -> Clock {
+fn last_clock(c: Clock, rate: u32) -> Clock
+    ensures { λ r. ⌜ r ≡ lastClock c rate ⌝ }
+{
     if c.frames > 0 {
         return c;
     }

@@ -53,7 +53,7 @@ timeText c = indent (millisecondsOf c) ++ secondsText (millisecondsOf c) ++ word
 abbrev pub textOf : Text → List ℕ
 textOf t = take (t .len) (t .bytes)
 
--- the text says these bytes, the first 256 of them
+-- the text says these bytes, the first 256 of them; what stands past its length is left open, here and below
 pub record Says (bytes : List ℕ) (t : Text) : Type 0 where
   pub text : textOf t ≡ take 256 bytes
   pub short : t .len ≤ 256

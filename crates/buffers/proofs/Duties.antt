@@ -9,13 +9,15 @@ use Rattle.laws.specs.Runs.{after, given}
 use Rattle.config.specs.declared.AudioConfig.{AudioConfig}
 use Rattle.mixer.specs.declared.Mixer.{Mixer}
 use Rattle.output.specs.Duty.{mapped}
+use Rattle.output.specs.declared.Period.{Period}
 use Rattle.output.specs.declared.PwmMapper.{PwmMapper}
 use Rattle.frame.specs.Fades.{fadeEnded, fadeAt, nextT, advanced}
 use Rattle.frame.specs.Frames.{enveloped, sampled, monoMix, withMapper, monoGiven, monoFrame, dutyFrame}
 use Rattle.frame.specs.Runs.{monoStep, dutyStep, duties}
 use Rattle.frame.specs.declared.MonoFrame.{MonoFrame}
 use Rattle.buffers.specs.Buffers.{mappedOver, dutiesOver}
-use Rattle.buffers.proofs.Fill.{pcm, row}
+use Rattle.buffers.specs.Shapes.{row}
+use Rattle.buffers.proofs.Sounds.{pcm}
 
 -- ---- a mono frame with another mapper
 abbrev mapperIn : MonoFrame → PwmMapper → MonoFrame
@@ -60,7 +62,7 @@ unfolding monoFrame enveloped sampled
 mono-keeps m = advance-keeps m
 
 -- ---- and frame after frame
-pub run-keeps : (n : ℕ) (m : Mixer) → (after monoStep n m .mapper ≡ m .mapper) × (after monoStep n m .config ≡ m .config)
+run-keeps : (n : ℕ) (m : Mixer) → (after monoStep n m .mapper ≡ m .mapper) × (after monoStep n m .config ≡ m .config)
 unfolding after
 run-keeps zero m = (refl, refl)
 run-keeps (suc n) m =
@@ -94,7 +96,7 @@ duty-step : (m : Mixer) → dutyStep m ≡ withMapper (monoStep m) (next m (mono
 unfolding dutyFrame
 duty-step m = refl
 
-pub duty-after : (n : ℕ) (m : Mixer) → after dutyStep n m ≡ withMapper (after monoStep n m) (mappedOver (period m) (m .mapper) (row monoStep pcm n m))
+duty-after : (n : ℕ) (m : Mixer) → after dutyStep n m ≡ withMapper (after monoStep n m) (mappedOver (period m) (m .mapper) (row monoStep pcm n m))
 unfolding after given mappedOver
 duty-after zero m = refl
 duty-after (suc n) m =
@@ -112,7 +114,7 @@ first-duty : (m : Mixer) → dutyFrame m .duty ≡ mapped (monoStep m .mapper) (
 unfolding dutyFrame
 first-duty m = refl
 
-pub duty-given : (n : ℕ) (m : Mixer) → given dutyStep duties n m ≡ dutiesOver (period m) (m .mapper) (row monoStep pcm n m)
+duty-given : (n : ℕ) (m : Mixer) → given dutyStep duties n m ≡ dutiesOver (period m) (m .mapper) (row monoStep pcm n m)
 unfolding given dutiesOver
 duty-given zero m = refl
 duty-given (suc n) m =
@@ -126,3 +128,11 @@ duty-given (suc n) m =
     ∙ ap (dutiesOver (period x) q) (row-mapper n x q))
     ∙ ap (λ (a : PwmMapper). mapped a (pcm m) (period x) .duty ∷ dutiesOver (period x) (next m a (x .config)) (row monoStep pcm n x)) (k .0)
     ∙ ap (λ (c : AudioConfig). mapped (m .mapper) (pcm m) (c .«pwm_period») .duty ∷ dutiesOver (c .«pwm_period») (next m (m .mapper) c) (row monoStep pcm n x)) (k .1)
+
+-- the state and the cells that the mapper over a block's samples makes
+module _ (m x : Mixer) (n : ℕ) (p : Period) (samples : List ℤ) (h : x ≡ after monoStep n m) (e : p ≡ record { counts = x .config .«pwm_period» }) (c : samples ≡ row monoStep pcm n m) where
+  pub state-is : (q : PwmMapper) → q ≡ mappedOver (p .counts) (x .mapper) samples → withMapper x q ≡ after dutyStep n m
+  state-is q g = rw (g, e, c, duty-after n m, h, run-keeps n m .0, run-keeps n m .1)
+
+  pub cells-are : dutiesOver (p .counts) (x .mapper) samples ≡ given dutyStep duties n m
+  cells-are = rw (e, c, duty-given n m, h, run-keeps n m .0, run-keeps n m .1)

@@ -1,18 +1,21 @@
 -- A part of a blank buffer, as a call left it and as it is printed. Assumes nothing.
 use mathlib.Core.Path.{_≡_, refl, sym, ap, _∙_}
-use mathlib.Core.List.{List, _∷_, _++_}
-use Prim.Native.Nat.{ℕ, zero, suc, _/_, _*_, _≤_}
+use mathlib.Core.List.{List, _∷_, _++_, map}
+use Prim.Native.Nat.{ℕ, zero, suc, _≤_}
 use native.Mathlib.Omega.{arith}
 use lib.ListN.{length, take, drop, replicate, length-replicate, length-append}
 use lib.Seq.{take-append-seam}
 use Rattle.mixer.specs.declared.Mixer.{Mixer}
-use Rattle.buffers.specs.Buffers.{Fills, FillsAll, FillsPairs}
+use lib.IntN.{ℤ}
+use Rattle.buffers.specs.Buffers.{Fills, FillsAll}
+use Rattle.buffers.specs.Shapes.{stepOf, rawOf, framesIn, cellsIn, FillsBy}
+use Rattle.buffers.specs.declared.Shape.{Shape}
 use Rattle.engine.specs.Engines.{boxed}
 use Rattle.engine.specs.Fills.{filledIn}
 use Rattle.engine.specs.declared.fills.EngineFilled.{EngineFilled}
 use Rattle.hex.specs.Hex.{Wrote}
 use Rattle.cells.specs.Cells.{numberedText}
-use Rattle.fills.specs.Fills.{filledBy, singly, paired, Shows}
+use Rattle.fills.specs.Fills.{filledBy, singly, shapedFill, Shows}
 
 module _ {A : Type 0} where
   -- the first n of blank cells are lent
@@ -64,10 +67,12 @@ module _ {A : Type 0} (text : A → List ℕ) {blank : A} (step : Mixer → Mixe
       → Shows (singly text blank step gives n m) before after (record { len = len; engine = r .engine })
   singly-shown n part rest g k f w = shown n n n part rest g k (rw (lent-length n g) at f) w
 
-  pub paired-shown : (n : ℕ) {m : Mixer} {r : EngineFilled} {cells : List A} (part rest : List A) {before after : List ℕ} {len : ℕ}
-      → Lent blank n cells
-      → length part ≡ length (take n cells)
-      → FillsPairs step gives m (take n cells) (filledIn r) part
-      → Wrote before 0 (numberedText 4 (r .filled) text (take n (part ++ rest))) after len
-      → Shows (paired text blank step gives n m) before after (record { len = len; engine = r .engine })
-  paired-shown n part rest g k f w = shown n (n / 2) (n / 2 * 2) part rest g k (rw (lent-length n g) at f) w
+-- by shape
+pub shaped-shown : {A : Type 0} (text : A → List ℕ) {blank : A} (scale : ℤ → A) (shape : Shape) (n : ℕ) {m : Mixer} {r : EngineFilled} {cells : List A} (part rest : List A) {before after : List ℕ} {len : ℕ}
+    → Lent blank n cells
+    → length part ≡ length (take n cells)
+    → FillsBy scale shape m (take n cells) (filledIn r) part
+    → Wrote before 0 (numberedText 4 (r .filled) text (take n (part ++ rest))) after len
+    → Shows (shapedFill text blank scale shape n m) before after (record { len = len; engine = r .engine })
+shaped-shown text scale shape n part rest g k f w =
+    shown text (stepOf shape) (λ m. map scale (rawOf shape m)) n (framesIn shape n) (cellsIn shape n) part rest g k (rw (lent-length n g) at f) w

@@ -1,7 +1,7 @@
 -- The records 20 to 2A: the buffer that each fills, and what is printed of it. Assumes nothing.
 use Prim.Native.Nat.{ℕ, _*_, _/_}
 use mathlib.Core.Bool.{cond}
-use mathlib.Core.List.{List, _++_}
+use mathlib.Core.List.{List, _++_, map}
 use lib.Dec.{eqb}
 use lib.IntN.{ℤ}
 use lib.ListN.{drop, replicate}
@@ -12,6 +12,9 @@ use Rattle.laws.specs.Runs.{after, given}
 use Rattle.output.specs.Levels.{raised}
 use Rattle.mixer.specs.declared.Mixer.{Mixer}
 use Rattle.frame.specs.Runs.{dutyStep, duties, monoStep, stereoStep}
+use Rattle.buffers.specs.Shapes.{stepOf, rawOf, framesIn, cellsIn, levelStep, levelOf}
+use Rattle.buffers.specs.declared.Level.{Level}
+use Rattle.buffers.specs.declared.Shape.{Shape}
 use Rattle.buffers.specs.Buffers.{toI8, toI16, toI32, toU12, toU16, once, doubled, sides}
 use Rattle.engine.specs.Engines.{ValidEngine, boxed}
 use Rattle.hex.specs.Hex.{Wrote}
@@ -51,6 +54,13 @@ module _ {A : Type 0} (text : A → List ℕ) (blank : A) (step : Mixer → Mixe
   -- a frame for each pair of cells: an odd last one is not written
   abbrev pub paired : ℕ → Mixer → Fill
   paired n m = filledBy (n / 2) (n / 2 * 2) n m
+
+-- by shape and by level
+abbrev pub shapedFill : {A : Type 0} → (A → List ℕ) → A → (ℤ → A) → Shape → ℕ → Mixer → Fill
+shapedFill text blank scale shape n m = filledBy text blank (stepOf shape) (λ m. map scale (rawOf shape m)) (framesIn shape n) (cellsIn shape n) n m
+
+abbrev pub levelFill : Level → ℕ → Mixer → Fill
+levelFill level n m = singly wideText blankU16 (levelStep level) (levelOf level) n m
 
 -- 20: "duty"
 abbrev pub dutyFill : ℕ → Mixer → Fill

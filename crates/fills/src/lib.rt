@@ -3,7 +3,12 @@ ghost use mathlib.Core.Path.{_≡_};
 ghost use Prim.Native.Nat.{_≤_};
 ghost use lib.ListN.{replicate};
 ghost use Rattle.engine.specs.Engines.{ValidEngine};
-ghost use Rattle.fills.specs.Fills.{blankU8, blankU16, blankI8, blankI16, blankI32, dutyFill, pcmI8Fill, pcmI16Fill, pcmI32Fill, dacU8Fill, dacU12Fill, dacU16Fill, stereoI16Fill, stereoI32Fill, pannedI16Fill, pannedI8Fill, fillFor, Shows};
+ghost use Rattle.output.specs.Levels.{raised};
+ghost use Rattle.buffers.specs.Buffers.{toI8, toI16, toI32};
+ghost use Rattle.cells.specs.Cells.{byteText, i8Text, i16Text, i32Text};
+ghost use Rattle.fills.specs.Fills.{blankU8, blankU16, blankI8, blankI16, blankI32, shapedFill, levelFill, fillFor, Shows};
+use buffers::Level;
+use buffers::Shape;
 use cells::put_i8s;
 use cells::put_i16s;
 use cells::put_i32s;
@@ -48,135 +53,63 @@ fn blank_i32s() -> [i32; 2048]
     [-1515870811i32; 2048]
 }
 
-fn duty(e: AudioEngine, n: usize, out: &mut [u8; 262144]) -> Shown
+fn i8s(e: AudioEngine, shape: Shape, n: usize, out: &mut [u8; 262144]) -> Shown
     requires { ⌜ ValidEngine e ⌝ }
     requires { ⌜ n ≤ 2048 ⌝ }
-    ensures { λ r. ⌜ Shows (dutyFill n (e .state)) (now (out .entry)) (now (out .exit)) r ⌝ }
-{
-    let mut cells = blank_u16s();
-    let f = e.fill_duty_buffer(&mut cells[..n]);
-    let engine = f.engine;
-    let len = put_u16s(out, f.filled as u64, 4, &cells[..n]);
-    Shown { len, engine }
-}
-
-fn pcm_i8(e: AudioEngine, n: usize, out: &mut [u8; 262144]) -> Shown
-    requires { ⌜ ValidEngine e ⌝ }
-    requires { ⌜ n ≤ 2048 ⌝ }
-    ensures { λ r. ⌜ Shows (pcmI8Fill n (e .state)) (now (out .entry)) (now (out .exit)) r ⌝ }
+    ensures { λ r. ⌜ Shows (shapedFill i8Text blankI8 toI8 shape n (e .state)) (now (out .entry)) (now (out .exit)) r ⌝ }
 {
     let mut cells = blank_i8s();
-    let f = e.fill_pcm_i8_buffer(&mut cells[..n]);
+    let f = e.fill_i8(shape, &mut cells[..n]);
     let engine = f.engine;
     let len = put_i8s(out, f.filled as u64, 4, &cells[..n]);
     Shown { len, engine }
 }
 
-fn pcm_i16(e: AudioEngine, n: usize, out: &mut [u8; 262144]) -> Shown
+fn i16s(e: AudioEngine, shape: Shape, n: usize, out: &mut [u8; 262144]) -> Shown
     requires { ⌜ ValidEngine e ⌝ }
     requires { ⌜ n ≤ 2048 ⌝ }
-    ensures { λ r. ⌜ Shows (pcmI16Fill n (e .state)) (now (out .entry)) (now (out .exit)) r ⌝ }
+    ensures { λ r. ⌜ Shows (shapedFill i16Text blankI16 toI16 shape n (e .state)) (now (out .entry)) (now (out .exit)) r ⌝ }
 {
     let mut cells = blank_i16s();
-    let f = e.fill_pcm_i16_buffer(&mut cells[..n]);
+    let f = e.fill_i16(shape, &mut cells[..n]);
     let engine = f.engine;
     let len = put_i16s(out, f.filled as u64, 4, &cells[..n]);
     Shown { len, engine }
 }
 
-fn pcm_i32(e: AudioEngine, n: usize, out: &mut [u8; 262144]) -> Shown
+fn i32s(e: AudioEngine, shape: Shape, n: usize, out: &mut [u8; 262144]) -> Shown
     requires { ⌜ ValidEngine e ⌝ }
     requires { ⌜ n ≤ 2048 ⌝ }
-    ensures { λ r. ⌜ Shows (pcmI32Fill n (e .state)) (now (out .entry)) (now (out .exit)) r ⌝ }
+    ensures { λ r. ⌜ Shows (shapedFill i32Text blankI32 toI32 shape n (e .state)) (now (out .entry)) (now (out .exit)) r ⌝ }
 {
     let mut cells = blank_i32s();
-    let f = e.fill_pcm_i32_buffer(&mut cells[..n]);
+    let f = e.fill_i32(shape, &mut cells[..n]);
     let engine = f.engine;
     let len = put_i32s(out, f.filled as u64, 4, &cells[..n]);
     Shown { len, engine }
 }
 
-fn dac_u8(e: AudioEngine, n: usize, out: &mut [u8; 262144]) -> Shown
+fn u8s(e: AudioEngine, shape: Shape, n: usize, out: &mut [u8; 262144]) -> Shown
     requires { ⌜ ValidEngine e ⌝ }
     requires { ⌜ n ≤ 2048 ⌝ }
-    ensures { λ r. ⌜ Shows (dacU8Fill n (e .state)) (now (out .entry)) (now (out .exit)) r ⌝ }
+    ensures { λ r. ⌜ Shows (shapedFill byteText blankU8 raised shape n (e .state)) (now (out .entry)) (now (out .exit)) r ⌝ }
 {
     let mut cells = blank_u8s();
-    let f = e.fill_dac_u8_buffer(&mut cells[..n]);
+    let f = e.fill_u8(shape, &mut cells[..n]);
     let engine = f.engine;
     let len = put_u8s(out, f.filled as u64, 4, &cells[..n]);
     Shown { len, engine }
 }
 
-fn dac_u12(e: AudioEngine, n: usize, out: &mut [u8; 262144]) -> Shown
+fn u16s(e: AudioEngine, level: Level, n: usize, out: &mut [u8; 262144]) -> Shown
     requires { ⌜ ValidEngine e ⌝ }
     requires { ⌜ n ≤ 2048 ⌝ }
-    ensures { λ r. ⌜ Shows (dacU12Fill n (e .state)) (now (out .entry)) (now (out .exit)) r ⌝ }
+    ensures { λ r. ⌜ Shows (levelFill level n (e .state)) (now (out .entry)) (now (out .exit)) r ⌝ }
 {
     let mut cells = blank_u16s();
-    let f = e.fill_dac_u12_buffer(&mut cells[..n]);
+    let f = e.fill_u16(level, &mut cells[..n]);
     let engine = f.engine;
     let len = put_u16s(out, f.filled as u64, 4, &cells[..n]);
-    Shown { len, engine }
-}
-
-fn dac_u16(e: AudioEngine, n: usize, out: &mut [u8; 262144]) -> Shown
-    requires { ⌜ ValidEngine e ⌝ }
-    requires { ⌜ n ≤ 2048 ⌝ }
-    ensures { λ r. ⌜ Shows (dacU16Fill n (e .state)) (now (out .entry)) (now (out .exit)) r ⌝ }
-{
-    let mut cells = blank_u16s();
-    let f = e.fill_dac_u16_buffer(&mut cells[..n]);
-    let engine = f.engine;
-    let len = put_u16s(out, f.filled as u64, 4, &cells[..n]);
-    Shown { len, engine }
-}
-
-fn stereo_i16(e: AudioEngine, n: usize, out: &mut [u8; 262144]) -> Shown
-    requires { ⌜ ValidEngine e ⌝ }
-    requires { ⌜ n ≤ 2048 ⌝ }
-    ensures { λ r. ⌜ Shows (stereoI16Fill n (e .state)) (now (out .entry)) (now (out .exit)) r ⌝ }
-{
-    let mut cells = blank_i16s();
-    let f = e.fill_stereo_i16_buffer(&mut cells[..n]);
-    let engine = f.engine;
-    let len = put_i16s(out, f.filled as u64, 4, &cells[..n]);
-    Shown { len, engine }
-}
-
-fn stereo_i32(e: AudioEngine, n: usize, out: &mut [u8; 262144]) -> Shown
-    requires { ⌜ ValidEngine e ⌝ }
-    requires { ⌜ n ≤ 2048 ⌝ }
-    ensures { λ r. ⌜ Shows (stereoI32Fill n (e .state)) (now (out .entry)) (now (out .exit)) r ⌝ }
-{
-    let mut cells = blank_i32s();
-    let f = e.fill_stereo_i32_buffer(&mut cells[..n]);
-    let engine = f.engine;
-    let len = put_i32s(out, f.filled as u64, 4, &cells[..n]);
-    Shown { len, engine }
-}
-
-fn panned_i16(e: AudioEngine, n: usize, out: &mut [u8; 262144]) -> Shown
-    requires { ⌜ ValidEngine e ⌝ }
-    requires { ⌜ n ≤ 2048 ⌝ }
-    ensures { λ r. ⌜ Shows (pannedI16Fill n (e .state)) (now (out .entry)) (now (out .exit)) r ⌝ }
-{
-    let mut cells = blank_i16s();
-    let f = e.fill_stereo_panned_i16_buffer(&mut cells[..n]);
-    let engine = f.engine;
-    let len = put_i16s(out, f.filled as u64, 4, &cells[..n]);
-    Shown { len, engine }
-}
-
-fn panned_i8(e: AudioEngine, n: usize, out: &mut [u8; 262144]) -> Shown
-    requires { ⌜ ValidEngine e ⌝ }
-    requires { ⌜ n ≤ 2048 ⌝ }
-    ensures { λ r. ⌜ Shows (pannedI8Fill n (e .state)) (now (out .entry)) (now (out .exit)) r ⌝ }
-{
-    let mut cells = blank_i8s();
-    let f = e.fill_stereo_panned_i8_buffer(&mut cells[..n]);
-    let engine = f.engine;
-    let len = put_i8s(out, f.filled as u64, 4, &cells[..n]);
     Shown { len, engine }
 }
 
@@ -187,16 +120,16 @@ pub fn fill(code: u8, e: AudioEngine, n: usize, out: &mut [u8; 262144]) -> Shown
     ensures { λ r. ⌜ Shows (fillFor code n (e .state)) (now (out .entry)) (now (out .exit)) r ⌝ }
 {
     match code {
-        0x20 => duty(e, n, out),
-        0x21 => pcm_i8(e, n, out),
-        0x22 => pcm_i16(e, n, out),
-        0x23 => pcm_i32(e, n, out),
-        0x24 => dac_u8(e, n, out),
-        0x25 => dac_u12(e, n, out),
-        0x26 => dac_u16(e, n, out),
-        0x27 => stereo_i16(e, n, out),
-        0x28 => stereo_i32(e, n, out),
-        0x29 => panned_i16(e, n, out),
-        _ => panned_i8(e, n, out),
+        0x20 => u16s(e, Level::Duty, n, out),
+        0x21 => i8s(e, Shape::Once, n, out),
+        0x22 => i16s(e, Shape::Once, n, out),
+        0x23 => i32s(e, Shape::Once, n, out),
+        0x24 => u8s(e, Shape::Once, n, out),
+        0x25 => u16s(e, Level::U12, n, out),
+        0x26 => u16s(e, Level::U16, n, out),
+        0x27 => i16s(e, Shape::Doubled, n, out),
+        0x28 => i32s(e, Shape::Doubled, n, out),
+        0x29 => i16s(e, Shape::Sides, n, out),
+        _ => i8s(e, Shape::Sides, n, out),
     }
 }

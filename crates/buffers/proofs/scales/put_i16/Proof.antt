@@ -1,64 +1,30 @@
 -- What is left to store is what there was. Assumes nothing.
-use Prim.Native.Nat.{_+_, _-_, _≤_}
+use Prim.Native.Nat.{_-_, _≤_}
 use native.Mathlib.Omega.{arith}
 use borrow.Author.Needs.{needs}
-use mathlib.Core.Path.{_≡_, refl, _∙_, ap}
-use mathlib.Core.List.{map}
 use lib.IntN.{pos}
-use lib.ListN.{length, getD, take, drop, length-set}
-use lib.Seq.{sets}
-use mir.Syntax.{w8, w16}
-use mir.Val.{SFits}
-use mir.ValLaws.{toZ-ofZ}
+use lib.ListN.{getD}
+use mir.Syntax.{w16}
 use Rattle.buffers.specs.Buffers.{toI16}
-use Rattle.buffers.proofs.Cells.{put-turn, put-start, put-end}
+use Rattle.buffers.proofs.Cells.{Putting, put-start, scaledFrom, scaled-turn, scaled-end, through}
 use Rattle.buffers.proofs.scales.put_i16.Statement.{statement}
 use Rattle.buffers.proofs.scales.put_i16.Tie as tie
 
 abbrev Inv-loop : tie.InvT-loop
-Inv-loop block n at out₀ i₀ out i =
-    (i ≤ n) × (length out ≡ length out₀) × (sets out (at + i) (map toI16 (drop i (take n block))) ≡ sets out₀ at (map toI16 (take n block)))
+Inv-loop raw k at out₀ i₀ out i = (i ≤ k) × Putting (scaledFrom toI16 raw k 0) out₀ at (scaledFrom toI16 raw k i) i out
 
 abbrev μ-loop : tie.MeasureT-loop
-μ-loop block n at out₀ i₀ out i = n - i
+μ-loop raw k at out₀ i₀ out i = k - i
 
 abbrev start : tie.At-loop Inv-loop μ-loop → tie.Start Inv-loop μ-loop
 start s = s .before
-
-loop-holds : tie.Need-loop-holds Inv-loop μ-loop
-loop-holds c = let a = c .args in (omega arith, refl, put-start toI16 (a .block .now) (a .n) (a .at) (a .out .now))
-
-element-copy-out-pcm-to-i16 : tie.Need-element-copy-out-pcm-to-i16 Inv-loop μ-loop
-element-copy-out-pcm-to-i16 c = omega (arith, start (c .before) .pre .0)
-
-add-t11 : tie.Need-add-t11 Inv-loop μ-loop
-add-t11 c = let s = c .before .before .before in omega (arith, start s .pre .2, start s .good .1 .1 .1 .0 .0)
-
-mul-t12 : tie.Need-mul-t12 Inv-loop μ-loop
-mul-t12 c = let s = c .before .before .before in omega (arith, start s .pre .2, start s .good .1 .1 .1 .0 .1)
-
-slice-set-from-out : tie.Need-slice-set-from-out Inv-loop μ-loop
-slice-set-from-out c = let s = c .before .before .before in omega (arith, start s .pre .2, s .loop .inv .1)
-
-add-i : tie.Need-add-i Inv-loop μ-loop
-add-i c = let s = c .before .before .before in omega (arith, start s .pre .0)
 
 loop-again : tie.Need-loop-again Inv-loop μ-loop
 loop-again c =
     let s = c .before .before .before in
     let a = start s .args in
-    let narrow : SFits w8 (getD (a .block .now) (s .loop .i) (pos 0)) = record { sfits = omega (arith, c .before .pcm-to-i16-arg .given) } in
-    let e = toZ-ofZ w16 (c .pcm-to-i16 .result) (record { sfits = c .pcm-to-i16 .ok }) ∙ c .pcm-to-i16 .ensures ∙ ap toI16 (toZ-ofZ w8 (getD (a .block .now) (s .loop .i) (pos 0)) narrow) in (
-      omega arith,
-      rw length-set (s .loop .inv .1),
-      put-turn toI16 (a .block .now) (a .n) (a .at) (s .loop .out) (s .loop .i) (pos 0) _ (c .before .before .loop-test .taken) (start s .pre .1) e ∙ s .loop .inv .2,
-    )
-
-returns : tie.Need-returns Inv-loop μ-loop
-returns c =
-    let s = c .before in
-    let a = start s .args in
-    put-end toI16 (a .block .now) (a .n) (a .at) (s .loop .out) (a .out .now) (s .loop .i) (omega arith) (s .loop .inv .2)
+    let z = getD (a .raw .now) (s .loop .i) (pos 0) in
+    (omega arith, scaled-turn toI16 (a .raw .now) (a .k) _ (c .before .before .loop-test .taken) (start s .pre .0) (through toI16 w16 z (c .pcm-to-i16 .result) (record { sfits = omega (arith, c .before .pcm-to-i16-arg .given) }) (record { sfits = c .pcm-to-i16 .ok }) (c .pcm-to-i16 .ensures)) (s .loop .inv .1))
 
 pub put-i16-spec : {M : Type 1} → statement M
 put-i16-spec =
@@ -66,14 +32,14 @@ put-i16-spec =
     (tie.spec
     Inv-loop
     μ-loop
-    loop-holds
-    element-copy-out-pcm-to-i16
+    (λ c. (omega arith, put-start _ _ _))
+    (λ c. omega (arith, start (c .before) .pre .0))
     (λ c κs. search needs)
-    add-t11
-    mul-t12
-    slice-set-from-out
-    add-i
+    (λ c. let s = c .before .before .before in omega (arith, start s .pre .1, start s .good .1 .1 .1 .0 .0))
+    (λ c. let s = c .before .before .before in omega (arith, start s .pre .1, start s .good .1 .1 .1 .0 .1))
+    (λ c. let s = c .before .before .before in omega (arith, start s .pre .1, s .loop .inv .1 .long))
+    (λ c. let s = c .before .before .before in omega (arith, start s .pre .1))
     (λ c. omega arith)
     loop-again
-    (λ c. c .before .loop .inv .1)
-    returns)
+    (λ c. c .before .loop .inv .1 .long)
+    (λ c. let s = c .before in let a = start s .args in scaled-end toI16 (a .raw .now) (a .k) (omega arith) (s .loop .inv .1)))

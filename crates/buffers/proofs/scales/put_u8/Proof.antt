@@ -1,61 +1,29 @@
 -- What is left to store is what there was. Assumes nothing.
-use Prim.Native.Nat.{_+_, _-_, _≤_}
+use Prim.Native.Nat.{_-_, _≤_}
 use native.Mathlib.Omega.{arith}
 use borrow.Author.Needs.{needs}
-use mathlib.Core.Path.{_≡_, refl, _∙_, ap}
-use mathlib.Core.List.{map}
 use lib.IntN.{pos}
-use lib.ListN.{length, getD, take, drop, length-set}
-use lib.Seq.{sets}
-use mir.Syntax.{w8}
-use mir.Val.{SFits}
-use mir.ValLaws.{toZ-ofZ}
+use lib.ListN.{getD}
 use Rattle.output.specs.Levels.{raised}
-use Rattle.buffers.proofs.Cells.{put-turn, put-start, put-end}
+use Rattle.buffers.proofs.Cells.{Putting, put-start, scaledFrom, scaled-turn, scaled-end, through-byte}
 use Rattle.buffers.proofs.scales.put_u8.Statement.{statement}
 use Rattle.buffers.proofs.scales.put_u8.Tie as tie
 
 abbrev Inv-loop : tie.InvT-loop
-Inv-loop block n at out₀ i₀ out i =
-    (i ≤ n) × (length out ≡ length out₀) × (sets out (at + i) (map raised (drop i (take n block))) ≡ sets out₀ at (map raised (take n block)))
+Inv-loop raw k at out₀ i₀ out i = (i ≤ k) × Putting (scaledFrom raised raw k 0) out₀ at (scaledFrom raised raw k i) i out
 
 abbrev μ-loop : tie.MeasureT-loop
-μ-loop block n at out₀ i₀ out i = n - i
+μ-loop raw k at out₀ i₀ out i = k - i
 
 abbrev start : tie.At-loop Inv-loop μ-loop → tie.Start Inv-loop μ-loop
 start s = s .before .before
-
-loop-holds : tie.Need-loop-holds Inv-loop μ-loop
-loop-holds c = let a = c .before .args in (omega arith, refl, put-start raised (a .block .now) (a .n) (a .at) (a .out .now))
-
-element-copy-out-pcm-to-dac-u8 : tie.Need-element-copy-out-pcm-to-dac-u8 Inv-loop μ-loop
-element-copy-out-pcm-to-dac-u8 c = omega (arith, start (c .before) .pre .0)
-
-add-out : tie.Need-add-out Inv-loop μ-loop
-add-out c = let s = c .before .before .before in omega (arith, start s .pre .2, start s .good .1 .1 .1 .0 .0)
-
-slice-write-out : tie.Need-slice-write-out Inv-loop μ-loop
-slice-write-out c = let s = c .before .before .before in omega (arith, start s .pre .2, s .loop .inv .1)
-
-add-i : tie.Need-add-i Inv-loop μ-loop
-add-i c = let s = c .before .before .before in omega (arith, start s .pre .0)
 
 loop-again : tie.Need-loop-again Inv-loop μ-loop
 loop-again c =
     let s = c .before .before .before in
     let a = start s .args in
-    let narrow : SFits w8 (getD (a .block .now) (s .loop .i) (pos 0)) = record { sfits = omega (arith, c .before .pcm-to-dac-u8-arg .given) } in
-    let e = c .pcm-to-dac-u8 .ensures ∙ ap raised (toZ-ofZ w8 (getD (a .block .now) (s .loop .i) (pos 0)) narrow) in (
-      omega arith,
-      rw length-set (s .loop .inv .1),
-      put-turn raised (a .block .now) (a .n) (a .at) (s .loop .out) (s .loop .i) (pos 0) _ (c .before .before .loop-test .taken) (start s .pre .1) e ∙ s .loop .inv .2,
-    )
-
-returns : tie.Need-returns Inv-loop μ-loop
-returns c =
-    let s = c .before in
-    let a = start s .args in
-    put-end raised (a .block .now) (a .n) (a .at) (s .loop .out) (a .out .now) (s .loop .i) (omega arith) (s .loop .inv .2)
+    let z = getD (a .raw .now) (s .loop .i) (pos 0) in
+    (omega arith, scaled-turn raised (a .raw .now) (a .k) _ (c .before .before .loop-test .taken) (start s .pre .0) (through-byte raised z (record { sfits = omega (arith, c .before .pcm-to-dac-u8-arg .given) }) (c .pcm-to-dac-u8 .ensures)) (s .loop .inv .1))
 
 pub put-u8-spec : {M : Type 1} → statement M
 put-u8-spec =
@@ -63,13 +31,13 @@ put-u8-spec =
     (tie.spec
     Inv-loop
     μ-loop
-    loop-holds
-    element-copy-out-pcm-to-dac-u8
+    (λ c. (omega arith, put-start _ _ _))
+    (λ c. omega (arith, start (c .before) .pre .0))
     (λ c κs. search needs)
-    add-out
-    slice-write-out
-    add-i
+    (λ c. let s = c .before .before .before in omega (arith, start s .pre .1, start s .good .1 .1 .1 .0 .0))
+    (λ c. let s = c .before .before .before in omega (arith, start s .pre .1, s .loop .inv .1 .long))
+    (λ c. let s = c .before .before .before in omega (arith, start s .pre .1))
     (λ c. omega arith)
     loop-again
-    (λ c. c .before .loop .inv .1)
-    returns)
+    (λ c. c .before .loop .inv .1 .long)
+    (λ c. let s = c .before in let a = start s .args in scaled-end raised (a .raw .now) (a .k) (omega arith) (s .loop .inv .1)))

@@ -1,13 +1,11 @@
 -- What an engine is opened with, and the step of a fade. Assumes nothing.
-use Prim.Native.Nat.{ℕ, _+_, _-_, _*_, _/_}
+use Prim.Native.Nat.{ℕ, _+_, _-_, _/_}
 use mathlib.Core.Bool.{cond, _||_}
-use lib.Dec.{ltb, eqb}
-use Rattle.error.specs.declared.AudioError.the-variants as E
+use lib.Dec.{eqb}
+use Rattle.laws.specs.Durations.{samplesWrapped}
 use Rattle.output.specs.declared.DutyMode.{DutyMode}
 use Rattle.output.specs.declared.DutyMode.the-variants as M
 use Rattle.config.specs.declared.AudioConfig.{AudioConfig}
-use Rattle.config.specs.declared.FadeStep.{FadeStep}
-use Rattle.config.specs.declared.FadeStep.the-variants.{Step, Refused}
 
 -- config.rs: a new configuration has master gain 255
 abbrev pub configured : ℕ → ℕ → DutyMode → AudioConfig
@@ -31,11 +29,7 @@ abbrev pub roundedUp : ℕ → ℕ → ℕ
 roundedUp a m = (a + (m - 1)) / m
 
 -- "Fade step: 255 for 0 ms, rate 0 or no whole sample; else 255 ÷ samples rounded up."
-unfoldable pub stepOf : ℕ → ℕ → ℕ
-stepOf ms rate =
-    let samples = ms * rate / 1000 in
+unfoldable pub fadeStep : ℕ → ℕ → ℕ
+fadeStep ms rate =
+    let samples = samplesWrapped ms rate in
     cond (eqb ms 0 || eqb rate 0 || eqb samples 0) 255 (roundedUp 255 samples)
-
--- "sample rate above 65,537 | 2 BadRate"
-unfoldable pub fadeStep : ℕ → ℕ → FadeStep
-fadeStep ms rate = cond (ltb 65537 rate) (Refused E.BadRate) (Step (stepOf ms rate))

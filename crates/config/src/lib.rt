@@ -1,7 +1,6 @@
 // What an engine is opened with, and the step of a fade.
 ghost use mathlib.Core.Path.{_≡_};
 ghost use Rattle.config.specs.Config.{configured, defaultDuty, withMasterGain, fadeStep};
-use error::AudioError;
 use output::DutyMode;
 
 pub const DEFAULT_SAMPLE_RATE_HZ: u32 = 16_000;
@@ -47,21 +46,14 @@ impl AudioConfig {
     }
 }
 
-pub enum FadeStep {
-    Step(u8),
-    Refused(AudioError),
-}
-
-// The fade's step in 256ths. Up to a rate of 65,537 the product fits 32 bits, whatever the time.
-pub fn crossfade_step_q8(duration_ms: u16, sample_rate_hz: u32) -> FadeStep
+// The fade's step in 256ths.
+pub fn crossfade_step_q8(duration_ms: u16, sample_rate_hz: u32) -> u8
     ensures { λ r. ⌜ r ≡ fadeStep «duration_ms» «sample_rate_hz» ⌝ }
 {
-    if sample_rate_hz > 65537 {
-        return FadeStep::Refused(AudioError::BadRate);
-    }
-    let samples = (duration_ms as u32) * sample_rate_hz / 1000;
+    let product = (duration_ms as u64) * (sample_rate_hz as u64) % 0x1_0000_0000;
+    let samples = product / 1000;
     if samples == 0 {
-        return FadeStep::Step(255);
+        return 255;
     }
-    FadeStep::Step(((255 + (samples - 1)) / samples) as u8)
+    ((255 + (samples - 1)) / samples) as u8
 }

@@ -11,7 +11,7 @@ use Rattle.envelope.specs.declared.AdsrSpec.{AdsrSpec}
 use Rattle.envelope.specs.declared.Adsr.{Adsr}
 use Rattle.envelope.specs.declared.AdsrPhase.{AdsrPhase}
 use Rattle.envelope.specs.declared.AdsrPhase.the-variants as P
-use Rattle.envelope.specs.Samples.{samplesOf}
+use Rattle.laws.specs.Durations.{samplesOf}
 use Rattle.envelope.specs.Adsrs.{Valid, Counting, Times, idleAdsr, inPhase, attackLength, decayLength, releaseLength, beganDecay, beganRelease, triggered, released, advancedToward, orAtEnd, ticked, tickedIn, active, activeIn, running}
 
 -- ---- 65,535 × 65,537 = 2^32 − 1

@@ -5,7 +5,7 @@ use mathlib.Core.Bool.{Bool, true, false, cond}
 use lib.Dec.{ltb, eqb}
 use lib.IntN.{pos, natAbs, _+ℤ_, _-ℤ_, _*ℤ_}
 use Rattle.laws.specs.Whole.{truncDiv}
-use Rattle.envelope.specs.Samples.{samplesOf}
+use Rattle.laws.specs.Durations.{samplesOf}
 use Rattle.envelope.specs.declared.AdsrSpec.{AdsrSpec}
 use Rattle.envelope.specs.declared.Adsr.{Adsr}
 use Rattle.envelope.specs.declared.AdsrPhase.{AdsrPhase}

@@ -1,9 +1,7 @@
 -- What a reader believes of the envelope, from document 01, "Envelope".
---     Samples    how many samples a duration lasts
 --     Adsrs      the envelope of a voice: what each call makes of it, and what keeps it valid
 --     Blocks     ticks one after another, and the levels that they leave
 --     Alone      the envelope that is opened alone
-pub mod Samples
 pub mod Adsrs
 pub mod Blocks
 pub mod Alone

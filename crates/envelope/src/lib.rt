@@ -2,7 +2,7 @@
 ghost use mathlib.Core.Path.{_≡_};
 ghost use Prim.Native.Nat.{_<_, _≤_, _*_, _/_};
 ghost use Rattle.laws.specs.Made.{Made};
-ghost use Rattle.envelope.specs.Samples.{samplesOf};
+ghost use Rattle.laws.specs.Durations.{samplesOf};
 ghost use Rattle.envelope.specs.Adsrs.{Valid, Counting, clickSpec, padSpec, idleAdsr, triggered, released, ticked, beganDecay, sustained, ended, advancedToward, nextLevel, active};
 ghost use Rattle.envelope.specs.Alone.{ValidEnvelope, OpenedAs, triggeredEnvelope, releasedEnvelope, tickedEnvelope};
 use error::AudioError;

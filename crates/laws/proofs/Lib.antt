@@ -5,6 +5,7 @@
 --               neg-mul, neg-quot, zero-sub, sub-flip; the rule set `signed` for goals under toZ and ofZ
 --     Held      what heldTo gives: held-id, held-within, within-fits, held-between
 --     Wrap      what wrap32 gives: wrap-id for what fits, wrap-low and wrap-high for a lap more or less
+--     Durations at document 01's rates: product-fits, samples-wrapped
 --     Made      a value that is x, which is valid, is Made: made
 --     Finite    a rule over all numbers below a bound by one computed test: below, between, same-at, fits-at, i8
 --     Lists     runs of stores: sets-append, sets-last; loops over the first n: drop-take-cons, drop-take-end, mapFirst-step, length-mapFirst,
@@ -18,6 +19,7 @@ pub mod Bools
 pub mod Signed
 pub mod Held
 pub mod Wrap
+pub mod Durations
 pub mod Made
 pub mod Finite
 pub mod Lists

@@ -1,10 +1,14 @@
 -- Whole numbers as document 01 divides, holds and wraps them. Assumes nothing.
 use Prim.Native.Nat.{ℕ, suc, _-_, _/_, _%_, _^_}
 use mathlib.Core.Bool.{cond}
-use lib.IntN.{ℤ, pos, negsuc}
+use lib.IntN.{ℤ, pos, negsuc, negℤ}
 use lib.Signed.{ltZ, quotZ}
 use mir.Syntax.{w32}
 use mir.Val.{toZ}
+
+-- a negative number as the paper writes it: neg 127 is −127
+abbrev pub neg : ℕ → ℤ
+neg n = negℤ (pos n)
 
 -- "floored" means downward. negsuc a is −(a + 1), and ⌊−(a + 1) ÷ m⌋ = −(⌊a ÷ m⌋ + 1)
 abbrev pub floorDiv : ℤ → ℕ → ℤ

@@ -7,7 +7,7 @@ use lib.ListN.{getD, set}
 use Rattle.bank.specs.Search.{foundGiven}
 use Rattle.bank.specs.declared.EntryRead.{EntryRead}
 use Rattle.bank.specs.declared.EntryRead.the-variants as F
-use Rattle.config.specs.Config.{stepOf}
+use Rattle.config.specs.Config.{fadeStep}
 use Rattle.envelope.specs.declared.AdsrSpec.{AdsrSpec}
 use Rattle.error.specs.declared.AudioError.the-variants as E
 use Rattle.start.specs.Starts.{entryStart}
@@ -42,7 +42,7 @@ begun m v step =
 -- the step is from the engine's rate
 unfoldable pub fadedBy : Mixer → ℕ → EntryStart → Changed
 fadedBy m ms (S.Refused e) = unchanged m e
-fadedBy m ms (S.Voice v) = record { outcome = O.Done; mixer = begun m v (stepOf ms (m .config .«sample_rate_hz»)) }
+fadedBy m ms (S.Voice v) = record { outcome = O.Done; mixer = begun m v (fadeStep ms (m .config .«sample_rate_hz»)) }
 
 -- "it releases voice 0 before its entry start, and 4 or 10 given there leaves that release standing"
 abbrev pub fadedTo : Mixer → List ℕ → ℕ → AdsrSpec → EntryRead → Changed

@@ -9,7 +9,8 @@ use lib.Dec.{eqb}
 use mir.Syntax.{w8}
 use mir.Val.{SFits}
 use Rattle.laws.proofs.Signed.{sub-fits}
-use Rattle.envelope.specs.Samples.{samplesOf}
+use Rattle.laws.specs.Durations.{samplesOf}
+use Rattle.laws.proofs.Durations.{samples-wrapped}
 use Rattle.tone.specs.Duration.{forever, durationOf}
 use Rattle.tone.specs.Tones.{ramp, steppedTone}
 use Rattle.tone.specs.Blocks.{turned, waveAt}
@@ -19,10 +20,7 @@ use Rattle.tone.proofs.Sounding.{Counted}
 -- at document 01's rates the product of 32 bits is the product
 pub duration-samples : (ms rate : ℕ) → ms ≤ 65535 → rate ≤ 65537 → durationOf ms rate ≡ cond (eqb ms 0) forever (samplesOf ms rate)
 unfolding durationOf
-duration-samples ms rate h k =
-    let p : ms * rate ≤ 65535 * 65537 = mul-le-mul h k in
-    let q : ms * rate < 4294967296 = omega arith in
-    rw (mod-eq-of-lt q)
+duration-samples ms rate h k = rw (samples-wrapped ms rate h k)
 
 -- the ramp is a sample
 pub ramp-fits : (x : ℕ) → x < 128 → SFits w8 (ramp x)

@@ -2,9 +2,10 @@
 ghost use mathlib.Core.Path.{_≡_};
 ghost use Prim.Native.Nat.{_<_, _≤_, _*_, _/_};
 ghost use Rattle.laws.specs.Made.{Made};
+ghost use Rattle.error.specs.Told.{Answered};
 ghost use Rattle.laws.specs.Durations.{samplesOf};
 ghost use Rattle.envelope.specs.Adsrs.{Valid, Counting, clickSpec, padSpec, idleAdsr, triggered, released, ticked, beganDecay, sustained, ended, advancedToward, nextLevel, active};
-ghost use Rattle.envelope.specs.Alone.{ValidEnvelope, OpenedAs, triggeredEnvelope, releasedEnvelope, tickedEnvelope};
+ghost use Rattle.envelope.specs.Alone.{ValidEnvelope, opened, toldOpened, triggeredEnvelope, releasedEnvelope, tickedEnvelope};
 use error::AudioError;
 
 mod blocks;
@@ -283,7 +284,7 @@ pub enum Opened {
 
 impl Envelope {
     pub fn open(spec: AdsrSpec, sample_rate_hz: u32) -> Opened
-        ensures { λ r. ⌜ OpenedAs spec «sample_rate_hz» r ⌝ }
+        ensures { λ r. ⌜ Answered toldOpened ValidEnvelope (opened spec «sample_rate_hz») r ⌝ }
     {
         if sample_rate_hz > 65537 {
             Opened::Refused(AudioError::BadRate)

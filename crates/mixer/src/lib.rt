@@ -2,6 +2,7 @@
 // such a state in a private field.
 ghost use mathlib.Core.Path.{_≡_};
 ghost use Rattle.laws.specs.Made.{Made};
+ghost use Rattle.error.specs.Numbers.{numberOf};
 ghost use Rattle.mixer.specs.Mixers.{Valid, ValidChanged, fresh, notOpened, opened, withMasterGain, stopped, audibleCount, playing, voiceRead, panRead, panned, banked};
 use bank::BankRead;
 use bank::BankSet;
@@ -75,7 +76,7 @@ fn fresh(n: usize, config: AudioConfig, policy: VoiceStealingPolicy) -> Mixer
 
 // What stands where opening is refused.
 fn closed(error: AudioError) -> Changed
-    ensures { λ r. ⌜ Made ValidChanged (notOpened error) r ⌝ }
+    ensures { λ r. ⌜ Made ValidChanged (notOpened (numberOf error)) r ⌝ }
 {
     let none = AudioConfig {
         sample_rate_hz: 0,
@@ -208,7 +209,7 @@ impl Mixer {
             },
             BankRead::Bank(b) => {
                 let old = self.config;
-                let rate = b.sample_rate_hz;
+                let rate = b.sample_rate_hz();
                 let config = AudioConfig {
                     sample_rate_hz: rate,
                     ..old

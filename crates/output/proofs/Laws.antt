@@ -15,7 +15,7 @@ use Rattle.laws.specs.Whole.{heldTo}
 use Rattle.laws.proofs.Held.{Between, held-between}
 use Rattle.laws.proofs.Signed.{mag≤abs, mag-add, sub-size, pos-sub, abs≤, abs-fits, abs-quot, add≤, sub≤, mul≤}
 use Rattle.output.specs.Shapers.{level, shaped2ndOrder, ValidShaper, ValidShaped, fresh2ndOrder}
-use Rattle.output.specs.declared.PeriodRead.the-variants.{Accepted}
+use Rattle.error.specs.Told.{value}
 use Rattle.output.specs.Duty.{duty, periodRead, mappedBy, mapped, ValidMapper, ValidMapped}
 use Rattle.output.specs.Levels.{raised}
 use Rattle.output.specs.declared.DutyMode.{DutyMode}
@@ -130,7 +130,7 @@ pub duty-between : (s : ℤ) (p : ℕ) → 2 ≤ p → Between 1 (p - 1) (heldTo
 duty-between s p h = held-between 1 (p - 1) _ (omega arith)
 
 -- a period of at least 2 is accepted
-pub period-accepted : (n : ℕ) → 2 ≤ n → periodRead n ≡ Accepted (record { counts = n })
+pub period-accepted : (n : ℕ) → 2 ≤ n → periodRead n ≡ value (record { counts = n })
 period-accepted n h = rw (le-ltb n 2 h)
 
 pub duty-least : (s : ℤ) (p : ℕ) → 2 ≤ p → 1 ≤ duty s p

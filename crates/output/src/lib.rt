@@ -5,9 +5,10 @@ ghost use lib.IntN.{pos, natAbs, _+ℤ_, _-ℤ_, _*ℤ_};
 ghost use lib.Signed.{mag};
 ghost use Rattle.laws.specs.Whole.{heldTo, wrap32};
 ghost use Rattle.laws.specs.Made.{Made};
+ghost use Rattle.error.specs.Told.{Answered};
 ghost use Rattle.output.specs.Shapers.{fresh, shaped, level, pulse, fresh2ndOrder, shaped2ndOrder, ValidShaper, ValidShaped};
-ghost use Rattle.output.specs.Duty.{duty, periodRead, ValidPeriod, ValidRead, freshMapper, mapped, ValidMapper, ValidMapped};
-ghost use Rattle.output.specs.Levels.{limitedBus, raised};
+ghost use Rattle.output.specs.Duty.{duty, periodRead, toldPeriod, ValidPeriod, freshMapper, mapped, ValidMapper, ValidMapped};
+ghost use Rattle.output.specs.Levels.{limitedBus, toldLimit, raised};
 use error::AudioError;
 
 // How a sample becomes a compare value.
@@ -174,7 +175,7 @@ pub enum PeriodRead {
 
 impl Period {
     pub fn new(counts: u16) -> PeriodRead
-        ensures { λ r. ⌜ Made ValidRead (periodRead counts) r ⌝ }
+        ensures { λ r. ⌜ Answered toldPeriod ValidPeriod (periodRead counts) r ⌝ }
     {
         if counts < 2 {
             return PeriodRead::Refused(AudioError::BadPeriod);
@@ -290,7 +291,7 @@ pub enum Limited {
 
 // Soft limiter before the mix bus, over the sums that sixteen samples can have.
 pub fn limit_bus(sum: i32) -> Limited
-    ensures { λ r. ⌜ r ≡ limitedBus sum ⌝ }
+    ensures { λ r. ⌜ toldLimit r ≡ limitedBus sum ⌝ }
 {
     if sum < -2048 {
         return Limited::Refused(AudioError::BadSum);

@@ -8,7 +8,7 @@ use borrow.Author.Tests.{eq-eqb, eqb-true, le-leb, leb-true, ltb-false}
 use lib.Dec.{eqb, leb, ltb}
 use lib.ListN.{length, take, drop, length-drop}
 use lib.Seq.{length-take-le}
-use Rattle.error.specs.Told.{Told, value, refused, andThen, accepted, ValidTold}
+use Rattle.error.specs.Told.{Told, value, refused, andThen, passed, ValidTold}
 use Rattle.bank.specs.declared.SoundBank.{SoundBank}
 use Rattle.bank.specs.declared.BankSet.{BankSet}
 use Rattle.bank.specs.declared.BankSet.the-variants as S
@@ -50,23 +50,23 @@ lent-holds (S.Bank a) b lent v e = by-test (eqb lent (a .len)) refl e
     by-test false h e = let z : _≡_ {A = ℕ} 0 1 = cc in omega arith
 
 -- a payload that is whole ends within the bytes
-pub whole-within : (bank : BankSet) (bytes : List ℕ) (offset len : ℕ) → payloadGiven bank bytes offset len ≡ accepted → offset + len ≤ length bytes
+pub whole-within : (bank : BankSet) (bytes : List ℕ) (offset len : ℕ) → payloadGiven bank bytes offset len ≡ passed → offset + len ≤ length bytes
 unfolding payloadGiven
 whole-within bank bytes offset len e = by-bank (lentBank bank (length bytes)) e
   where
-    by-test : (t : Bool) → leb (offset + len) (length bytes) ≡ t → cond t accepted (refused 4) ≡ accepted → offset + len ≤ length bytes
+    by-test : (t : Bool) → leb (offset + len) (length bytes) ≡ t → cond t passed (refused 4) ≡ passed → offset + len ≤ length bytes
     by-test true h e = leb-true (offset + len) (length bytes) h
     by-test false h e = let z : _≡_ {A = ℕ} 0 1 = cc in omega arith
 
-    by-bank : (t : Told SoundBank) → andThen t (λ b. cond (leb (offset + len) (length bytes)) accepted (refused 4)) ≡ accepted → offset + len ≤ length bytes
+    by-bank : (t : Told SoundBank) → andThen t (λ b. cond (leb (offset + len) (length bytes)) passed (refused 4)) ≡ passed → offset + len ≤ length bytes
     by-bank (refused n) e = let z : _≡_ {A = ℕ} 0 1 = cc in omega arith
     by-bank (value b) e = by-test (leb (offset + len) (length bytes)) refl e
 
 -- the part of a payload that is whole: from its offset, of its length
-pub whole-part : (bank : BankSet) (bytes : List ℕ) (offset len : ℕ) → payloadGiven bank bytes offset len ≡ accepted → payloadPart bank bytes offset len ≡ take len (drop offset bytes)
+pub whole-part : (bank : BankSet) (bytes : List ℕ) (offset len : ℕ) → payloadGiven bank bytes offset len ≡ passed → payloadPart bank bytes offset len ≡ take len (drop offset bytes)
 whole-part bank bytes offset len e = rw e
 
-pub whole-length : (bank : BankSet) (bytes : List ℕ) (offset len : ℕ) → payloadGiven bank bytes offset len ≡ accepted → length (payloadPart bank bytes offset len) ≡ len
+pub whole-length : (bank : BankSet) (bytes : List ℕ) (offset len : ℕ) → payloadGiven bank bytes offset len ≡ passed → length (payloadPart bank bytes offset len) ≡ len
 whole-length bank bytes offset len e =
     let h = whole-within bank bytes offset len e in
     rw e (length-take-le len (drop offset bytes) (rw length-drop (omega arith)))
@@ -75,6 +75,6 @@ pub refused-part : (bank : BankSet) (bytes : List ℕ) (offset len : ℕ) {n : �
 refused-part bank bytes offset len e = rw e
 
 -- "offset equal to the bank's length with length 0 is accepted"
-pub whole-at-end : (bank : BankSet) {b : SoundBank} (bytes : List ℕ) → lentBank bank (length bytes) ≡ value b → payloadGiven bank bytes (length bytes) 0 ≡ accepted
+pub whole-at-end : (bank : BankSet) {b : SoundBank} (bytes : List ℕ) → lentBank bank (length bytes) ≡ value b → payloadGiven bank bytes (length bytes) 0 ≡ passed
 unfolding payloadGiven
 whole-at-end bank bytes e = rw (e, le-leb (length bytes + 0) (length bytes) (omega arith))

@@ -6,7 +6,7 @@ use mathlib.Core.List.{List, []}
 use lib.Dec.{eqb, ltb, leb}
 use lib.ListN.{length, take, drop}
 use Rattle.error.specs.Numbers.{numberOf}
-use Rattle.error.specs.Told.{Told, value, refused, andThen, accepted}
+use Rattle.error.specs.Told.{Told, value, refused, andThen, passed}
 use Rattle.bank.specs.declared.SoundBank.{SoundBank}
 use Rattle.bank.specs.declared.BankSet.{BankSet}
 use Rattle.bank.specs.declared.BankSet.the-variants as S
@@ -50,10 +50,10 @@ entryGiven bank bytes index =
 -- "A payload lookup takes an entry's offset and length and gives its number in one call": 4 where "offset + length exceeds the bank"
 unfoldable pub payloadGiven : BankSet → List ℕ → ℕ → ℕ → Told (Unit {0})
 payloadGiven bank bytes offset len =
-    andThen (lentBank bank (length bytes)) (λ b. cond (leb (offset + len) (length bytes)) accepted (refused 4))
+    andThen (lentBank bank (length bytes)) (λ b. cond (leb (offset + len) (length bytes)) passed (refused 4))
 
 abbrev pub toldPayload : PayloadRead → Told (Unit {0})
-toldPayload P.Whole = accepted
+toldPayload P.Whole = passed
 toldPayload (P.Refused e) = refused (numberOf e)
 
 -- "and the part in another; refused, that part is empty": "the very part of the lent bank from its offset, of its length"

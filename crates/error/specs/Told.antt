@@ -17,9 +17,9 @@ abbrev pub andThen : {A B : Type 0} → Told A → (A → Told B) → Told B
 andThen (value x) next = next x
 andThen (refused n) next = refused n
 
--- where nothing but the number is given
-abbrev pub accepted : Told (Unit {0})
-accepted = value tt
+-- no refusal, where a call gives nothing more
+abbrev pub passed : Told (Unit {0})
+passed = value tt
 
 -- 0, or the refusal's number
 abbrev pub numberIn : {A : Type 0} → Told A → ℕ

@@ -11,7 +11,7 @@ use Rattle.bank.specs.declared.BankSet.the-variants as B
 use Rattle.config.specs.Config as C
 use Rattle.config.specs.declared.AudioConfig.{AudioConfig}
 use Rattle.error.specs.Numbers.{numberOf}
-use Rattle.error.specs.Told.{Told, value, refused, accepted, refusal}
+use Rattle.error.specs.Told.{Told, value, refused, passed, refusal}
 use Rattle.laws.specs.Lists.{All, mapFirst, only}
 use Rattle.output.specs.Duty.{freshMapper, ValidMapper}
 use Rattle.output.specs.declared.DutyMode.the-variants as D
@@ -155,7 +155,7 @@ abbrev pub unchanged : Mixer → ℕ → Changed
 unchanged m n = record { outcome = O.Refused (refusal n); mixer = m }
 
 abbrev pub toldOutcome : Outcome → Told (Unit {0})
-toldOutcome O.Done = accepted
+toldOutcome O.Done = passed
 toldOutcome (O.Refused e) = refused (numberOf e)
 
 -- "Setting a bank makes its rate the engine's and all voices silent at that rate, and touches neither fade fields nor duty shapers."

@@ -10,7 +10,7 @@ use Rattle.bank.specs.declared.BankSet.the-variants as B
 use Rattle.bank.specs.declared.SoundBank.{SoundBank}
 use Rattle.bank.specs.declared.EffectEntry.{EffectEntry}
 use Rattle.bank.specs.Search.{foundGiven}
-use Rattle.error.specs.Told.{Told, value, refused, andThen, accepted, ValidTold}
+use Rattle.error.specs.Told.{Told, value, refused, andThen, passed, ValidTold}
 use Rattle.envelope.specs.declared.AdsrSpec.{AdsrSpec}
 use Rattle.voice.specs.Sources.{ValidSource, startedEntry}
 use Rattle.voice.specs.Voices.{Valid, silentVoice, audible}
@@ -41,7 +41,7 @@ module _ (bank : BankSet) (b : SoundBank) (bytes : List ℕ) (entry : EffectEntr
   unfolding entryStart
   start-refused n k = rw (h, k)
 
-  pub start-whole : payloadGiven (B.Bank b) bytes (entry .offset) (entry .len) ≡ accepted → entryStart bank bytes entry adsr priority ≡ startAt (b .«sample_rate_hz») entry adsr priority
+  pub start-whole : payloadGiven (B.Bank b) bytes (entry .offset) (entry .len) ≡ passed → entryStart bank bytes entry adsr priority ≡ startAt (b .«sample_rate_hz») entry adsr priority
   unfolding entryStart
   start-whole k = rw (h, k)
 

@@ -6,7 +6,7 @@ ghost use lib.Signed.{mag};
 ghost use Rattle.laws.specs.Whole.{heldTo, wrap32};
 ghost use Rattle.laws.specs.Made.{Made};
 ghost use Rattle.error.specs.Told.{Answered};
-ghost use Rattle.output.specs.Shapers.{fresh, shaped, level, pulse, fresh2ndOrder, shaped2ndOrder, ValidShaper, ValidShaped};
+ghost use Rattle.output.specs.Shapers.{fresh, shaped, quantized, pulse, fresh2ndOrder, shaped2ndOrder, ValidShaper, ValidShaped};
 ghost use Rattle.output.specs.Duty.{duty, periodRead, toldPeriod, ValidPeriod, freshMapper, mapped, ValidMapper, ValidMapped};
 ghost use Rattle.output.specs.Levels.{limitedBus, toldLimit, raised};
 use error::AudioError;
@@ -96,7 +96,7 @@ struct Staged {
 // The error e gains x and loses its level.
 fn stage(e: i32, x: i32) -> Staged
     requires { ⌜ (natAbs e ≤ 32767) × (mag x ≤ 32767) ⌝ }
-    ensures { λ r. ⌜ (r .y ≡ level (e +ℤ x)) × (r .e ≡ e +ℤ x -ℤ level (e +ℤ x)) ⌝ }
+    ensures { λ r. ⌜ (r .y ≡ quantized (e +ℤ x)) × (r .e ≡ e +ℤ x -ℤ quantized (e +ℤ x)) ⌝ }
 {
     let sum = e + x;
     if sum >= 0 {

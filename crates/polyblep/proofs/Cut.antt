@@ -15,6 +15,7 @@ use lib.Ieee.Fits.{down-pos, and-l, and-r, kept-lt}
 use mir.Syntax.{w8}
 use mir.Val.{SFits}
 use Rattle.laws.proofs.F32.{or-le, nor-lt, le-or, or-ge, nor-gt, cut-ge, cut-lt}
+use Rattle.polyblep.proofs.Ranges.{apart}
 
 abbrev one : Float
 one = fin false 1 (pos 0)
@@ -72,13 +73,6 @@ scale-high a d p P h = let x : a * p < 128 * d * p = mul-lt-mul-of-pos-right h P
 unscale : (a d p : ℕ) → 0 < p → a * p / d / p ≡ a / d
 unscale a d p P = div-div-eq-div-mul (a * p) d p ∙ mul-div-mul-right a d P
 
--- a number that is not negative is not below one that is
-apart : (m : ℕ) (e : ℤ) → T (le one (fin true m e)) → ⊥
-unfolding le lt eq
-apart m e t =
-    let z : 1 * 1 * down e ≡ 0 = eqb→eq (1 * 1 * down e) 0 (and-r (eqb (1 * 1 * down e) (m * up e * 1)) (eqb (1 * 1 * down e) 0) t) in
-    lt-irrefl 0 (omega (arith, down-pos e))
-
 pub record Whole (x : Float) : Type 0 where
   pub number : T (not (isNan x))
   pub room : toBits binary32 x / 8388608 ≤ 150
@@ -90,7 +84,7 @@ unfolding le lt eq isNan toBits toUnsigned
 whole nan t u = absurd t
 whole (inf true) t u = absurd t
 whole (inf false) t u = absurd u
-whole (fin true m e) t u = absurd (apart m e t)
+whole (fin true m e) t u = absurd (apart 1 m e (omega arith) t)
 whole (fin false m e) t u =
     let l : 1 * 1 * down e ≤ m * up e * 1 = or-le (1 * 1 * down e) (m * up e * 1) t in
     let h : m * up e * 1 < 1 * 128 * down e = ltb→lt (m * up e * 1) (1 * 128 * down e) u in
@@ -116,7 +110,7 @@ unfolding le lt eq toSigned toUnsigned
 above nan t = absurd t
 above (inf true) t = absurd t
 above (inf false) t = refl
-above (fin true m e) t = absurd (apart m e t)
+above (fin true m e) t = absurd (apart 1 m e (omega arith) t)
 above (fin false m e) t = refl
 
 pub high : (x : Float) → T (le one x) → lt x top ≡ false → pos 127 ≡ toSigned 7 x
@@ -124,7 +118,7 @@ unfolding le lt eq toSigned
 high nan t u = absurd t
 high (inf true) t u = absurd t
 high (inf false) t u = refl
-high (fin true m e) t u = absurd (apart m e t)
+high (fin true m e) t u = absurd (apart 1 m e (omega arith) t)
 high (fin false m e) t u =
     let l = ltb-false (m * up e * 1) (1 * 128 * down e) u in
     ap pos (capped (m * up e / down e) (cut-ge (m * up e) (down e) 128 (down-pos e) (omega (arith, l))))

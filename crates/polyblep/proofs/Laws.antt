@@ -3,15 +3,15 @@ use mathlib.Core.Path.{_≡_}
 use mathlib.Core.Bool.{Bool, true, false, cond}
 use Prim.Native.Nat.{ℕ, zero, suc, _≤_, _<_}
 use lib.Dec.{T, eqb}
-use lib.Ieee.{lt, le, round}
+use lib.Ieee.{lt, le, eq, round}
+use lib.Ieee.Fits.{and-l, and-r}
 use Rattle.laws.specs.F32.{lit}
 use Rattle.tone.specs.Duration.{lessOne}
-use Rattle.polyblep.specs.Ranges.{below, atMost}
+use Rattle.polyblep.specs.Ranges.{isPhase, isStep}
 use Rattle.polyblep.specs.Oscillators.{Valid, ValidVoice, stepOf, newOscillator, atFrequency, atRate, withWaveform, atStart, advanced, later, voiceOf, silentVoice, startedVoice, stoppedVoice, steppedVoice}
 use Rattle.polyblep.specs.declared.PolyBlepWaveform.{PolyBlepWaveform}
 use Rattle.polyblep.specs.declared.PolyBlepOscillator.{PolyBlepOscillator}
 use Rattle.polyblep.specs.declared.PolyBlepVoice.{PolyBlepVoice}
-use Rattle.polyblep.proofs.Ranges.{step→half, in-words}
 use Rattle.polyblep.proofs.Keep.{keeps}
 use Rattle.polyblep.proofs.Step.{step-range, step-zero, step-large}
 
@@ -24,17 +24,17 @@ pub still-step : (rate : ℕ) → rate < 4294967296 → stepOf 0 rate ≡ lit 0 
 still-step = step-zero
 
 -- ---- an oscillator stays valid
-zero-below : T (below 1 1 (lit 0 1))
-unfolding below round
-zero-below = tt
+zero-phase : T (isPhase (lit 0 1))
+unfolding isPhase round le lt eq
+zero-phase = tt
 
-zero-atMost : T (atMost 8371831 16777216 (lit 0 1))
-unfolding atMost round
-zero-atMost = tt
+zero-step : T (isStep (lit 0 1))
+unfolding isStep round le lt eq
+zero-step = tt
 
 pub valid-new : (hz rate : ℕ) (w : PolyBlepWaveform) → hz < 4294967296 → rate < 4294967296 → Valid (newOscillator hz rate w)
 unfolding newOscillator
-valid-new hz rate w h k = record { phase = zero-below; step = step-range hz rate h k }
+valid-new hz rate w h k = record { phase = zero-phase; step = step-range hz rate h k }
 
 pub valid-frequency : (o : PolyBlepOscillator) (hz : ℕ) → Valid o → hz < 4294967296 → o .«sample_rate_hz» < 4294967296 → Valid (atFrequency o hz)
 unfolding atFrequency
@@ -50,11 +50,11 @@ valid-waveform o w v = record { phase = v .phase; step = v .step }
 
 pub valid-start : (o : PolyBlepOscillator) → Valid o → Valid (atStart o)
 unfolding atStart
-valid-start o v = record { phase = zero-below; step = v .step }
+valid-start o v = record { phase = zero-phase; step = v .step }
 
 pub valid-advanced : (o : PolyBlepOscillator) → Valid o → Valid (advanced o)
 unfolding advanced
-valid-advanced o v = record { phase = keeps (o .phase) (o .«phase_inc») (v .phase) (step→half (o .«phase_inc») (v .step)); step = v .step }
+valid-advanced o v = record { phase = keeps (o .phase) (o .«phase_inc») (v .phase) (v .step); step = v .step }
 
 -- any number of samples later
 pub valid-later : (n : ℕ) (o : PolyBlepOscillator) → Valid o → Valid (later n o)
@@ -68,7 +68,12 @@ pub record InTurn (o : PolyBlepOscillator) : Type 0 where
   pub most : T (lt (o .phase) (lit 1 1))
 
 pub in-turn : (o : PolyBlepOscillator) → Valid o → InTurn o
-in-turn o v = let w = in-words (o .phase) (v .phase) in record { least = w .0; most = w .1 }
+unfolding isPhase
+in-turn o v =
+    record {
+      least = and-l (le (lit 0 1) (o .phase)) (lt (o .phase) (lit 1 1)) (v .phase);
+      most = and-r (le (lit 0 1) (o .phase)) (lt (o .phase) (lit 1 1)) (v .phase);
+    }
 
 -- whatever it was opened with, and however long it runs
 pub phase-stays : (n hz rate : ℕ) (w : PolyBlepWaveform) → hz < 4294967296 → rate < 4294967296 → InTurn (later n (newOscillator hz rate w))
@@ -77,7 +82,7 @@ phase-stays n hz rate w h k = in-turn (later n (newOscillator hz rate w)) (valid
 -- ---- and so does a voice
 pub valid-silent : ValidVoice silentVoice
 unfolding silentVoice
-valid-silent = record { osc = record { phase = zero-below; step = zero-atMost } }
+valid-silent = record { osc = record { phase = zero-phase; step = zero-step } }
 
 pub valid-started : (hz ms : ℕ) (w : PolyBlepWaveform) (rate : ℕ) → hz < 4294967296 → rate < 4294967296 → ValidVoice (startedVoice hz ms w rate)
 unfolding startedVoice

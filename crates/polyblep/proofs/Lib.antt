@@ -3,7 +3,7 @@
 --     Runs     requests one after another: valid-after
 --     Turn     the remainder of the sine changes nothing at a phase
 --     Examples document 01's first samples, computed
---     Ranges   where a float lies, from an order and in the words of the comparisons
+--     Ranges   where a float lies, by its digits and in the words of the comparisons; −0
 --     Keep     the phase stays from 0 up and below 1
 --     Step     a step lies in 0..0.499; 0 for 0 Hz, 0.499 above 16,777,216 Hz
 --     Cut      a float cut to an i8: its whole part from its bits, and where it is held or 0

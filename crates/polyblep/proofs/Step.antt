@@ -5,25 +5,17 @@ use native.Mathlib.Nat.{lt-irrefl, mul-le-mul-right, mul-pos, zero-lt-suc}
 use native.Mathlib.Omega.{arith}
 use mathlib.Core.Bool.{Bool, true, false, cond, true≢false}
 use borrow.Author.Tests.{lt-ltb, ne-eqb}
-use lib.IntN.{pos, negsuc}
-use lib.Dec.{T, eqb, leb→le, le→leb, eqb→eq, nltb→le}
+use lib.IntN.{pos}
+use lib.Dec.{T, leb→le, le→leb, nltb→le}
 use lib.Ieee.{Float, nan, inf, fin, binary32, up, down, round, ofInt, div, lt, le, eq}
-use lib.Ieee.Fits.{down-pos, up-pos, and-r}
+use lib.Ieee.Fits.{down-pos, up-pos}
 use lib.Ieee.Scale.{round-same}
 use Rattle.laws.specs.F32.{_⊘_, lit, heldToF}
 use Rattle.laws.proofs.F32.{zero-is, one-is, or-le}
 use Rattle.laws.proofs.Rounding.{nonNeg, not-below-zero, round-nonNeg, round-down}
-use Rattle.polyblep.specs.Ranges.{atMost}
+use Rattle.polyblep.specs.Ranges.{isStep}
 use Rattle.polyblep.specs.Oscillators.{stepOf}
-use Rattle.polyblep.proofs.Ranges.{round-atMost}
-
-abbrev hi : Float
-hi = fin false 8371831 (negsuc 23)
-
--- 0.499
-hi-is : lit 499 1000 ≡ hi
-unfolding round
-hi-is = refl
+use Rattle.polyblep.proofs.Ranges.{atMost, round-atMost, hi, hi-is, apart, atMost→step}
 
 u32-is : round binary32 false 4294967296 1 ≡ fin false 1 (pos 32)
 unfolding round
@@ -73,12 +65,12 @@ div-nonNeg (fin false m e) (fin false zero g) p q =
     absurd (lt-irrefl 0 (omega (arith, down-pos g, l)))
 div-nonNeg (fin false m e) (fin false (suc n) g) p q = rw (ne-eqb (suc n) 0 (omega arith)) (round-nonNeg binary32 (m * up e * down g) (suc n * up g * down e))
 
--- 0.499 in binary32 is 8,371,831 ÷ 2^24
-pub step-range : (hz rate : ℕ) → hz < 4294967296 → rate < 4294967296 → T (atMost 8371831 16777216 (stepOf hz rate))
+pub step-range : (hz rate : ℕ) → hz < 4294967296 → rate < 4294967296 → T (isStep (stepOf hz rate))
 unfolding stepOf ofInt
 step-range hz rate h k =
-    clamped (round binary32 false hz 1 ⊘ round binary32 false (max rate 1) 1)
-    (div-nonNeg (round binary32 false hz 1) (round binary32 false (max rate 1) 1) (u32-atMost hz h) (divisor rate k))
+    atMost→step (stepOf hz rate)
+    (clamped (round binary32 false hz 1 ⊘ round binary32 false (max rate 1) 1)
+    (div-nonNeg (round binary32 false hz 1) (round binary32 false (max rate 1) 1) (u32-atMost hz h) (divisor rate k)))
 
 -- ---- 0 Hz
 zero-over : (y : Float) → Divisor y → fin false 0 (pos 0) ⊘ y ≡ fin false 0 (pos 0)
@@ -125,9 +117,7 @@ unfolding le lt eq
 over-hi nan t = absurd t
 over-hi (inf true) t = absurd t
 over-hi (inf false) t = refl
-over-hi (fin true m e) t =
-    let z : 255 * 1 * down e ≡ 0 = eqb→eq (255 * 1 * down e) 0 (and-r (eqb (255 * 1 * down e) (m * up e * 1)) (eqb (255 * 1 * down e) 0) t) in
-    absurd (lt-irrefl 0 (omega (arith, down-pos e)))
+over-hi (fin true m e) t = absurd (apart 255 m e (omega arith) t)
 over-hi (fin false m e) t =
     let l : 255 * 1 * down e ≤ m * up e * 1 = or-le (255 * 1 * down e) (m * up e * 1) t in
     lt-ltb (8371831 * 1 * down e) (m * up e * 16777216) (omega (arith, down-pos e))

@@ -1,6 +1,7 @@
--- The source brings the sine's angle to 0..2 pi by a remainder. The angle of a phase is not negative and below 2 pi, so the
--- remainder is the angle, to the last bit. Assumes nothing.
+-- The source brings the sine's angle to 0..2 pi by a remainder. The angle of a phase is at least 0 and below 2 pi, so the
+-- remainder is the angle, to the last bit, its sign at −0 too. Assumes nothing.
 use mathlib.Core.Path.{_≡_, refl, sym, _∙_, subst}
+use mathlib.Core.Logic.{inl, inr}
 use Prim.Native.Nat.{ℕ, zero, suc, _*_, _^_, _≤_, _<_}
 use native.Mathlib.Nat.{mul-le-mul-right, mul-pos, mul-one, mod-eq-of-lt}
 use native.Mathlib.Omega.{arith}
@@ -13,10 +14,10 @@ use lib.Ieee.Fits.{down-pos, mul-fits}
 use lib.Ieee.Scale.{round-same}
 use Rattle.laws.specs.F32.{_⊖_, _⊗_, lit}
 use Rattle.laws.proofs.Rounding.{is-short, not-below-zero, own}
-use Rattle.polyblep.specs.Ranges.{below, atMost}
+use Rattle.polyblep.specs.Ranges.{isPhase}
 use Rattle.polyblep.specs.Sine.{pi, twoPi, arch, turned, sineOf}
 use Rattle.polyblep.specs.Waves.{sinePart}
-use Rattle.polyblep.proofs.Ranges.{round-atMost, atMost-nonNeg}
+use Rattle.polyblep.proofs.Ranges.{MinusZero, minus, lessThan, atMost, round-atMost, round-minus, atMost-nonNeg, phase-cases}
 
 -- the angle of a phase
 abbrev pub angle : Float → Float
@@ -29,8 +30,8 @@ last-arith m p h k = omega arith
 no-whole : (m p : ℕ) → 0 < p → suc m * p * 1 < 1 * 1 → ⊥
 no-whole m p P h = let x : 1 * p ≤ suc m * p = mul-le-mul-right p (omega arith) in omega arith
 
-last : (x : Float) → T (fits binary32 x) → T (below 1 1 x) → T (atMost 16777215 16777216 x)
-unfolding below atMost
+last : (x : Float) → T (fits binary32 x) → T (lessThan 1 1 x) → T (atMost 16777215 16777216 x)
+unfolding lessThan atMost
 last nan f t = absurd t
 last (inf s) f t = absurd t
 last (fin true m e) f t = absurd t
@@ -78,7 +79,7 @@ second-is : round binary32 false (16777215 * (13176795 * up (negsuc 21))) (83886
 unfolding round
 second-is = refl
 
-angle-small : (x : Float) → T (fits binary32 x) → T (below 1 1 x) → T (atMost 6588397 1048576 (angle x))
+angle-small : (x : Float) → T (fits binary32 x) → T (lessThan 1 1 x) → T (atMost 6588397 1048576 (angle x))
 angle-small x f t =
     rw (two-is, pi-is)
     (times (x ⊗ fin false 1 (pos 1)) 16777215 8388608 13176795 (negsuc 21) 6588397 (negsuc 19) (omega arith)
@@ -101,15 +102,31 @@ rem-own (fin false m e) f t =
     rw (mod-eq-of-lt l)
     (round-same binary32 false (m * up e * 2097152) (down e * 2097152) (m * up e) (down e) (mul-pos (down-pos e) (pow-pos 21)) (down-pos e) (cross (m * up e) (down e) 2097152) ∙ own m e f)
 
-pub remainder-is-identity : (t : Float) → T (fits binary32 t) → T (below 1 1 t) → rem binary32 (angle t) twoPi ≡ angle t
-remainder-is-identity t f h = rw twoPi-is (rem-own (angle t) (mul-fits binary32 (t ⊗ lit 2 1) pi) (angle-small t f h))
+plus-remainder : (t : Float) → T (fits binary32 t) → T (lessThan 1 1 t) → rem binary32 (angle t) twoPi ≡ angle t
+plus-remainder t f h = rw twoPi-is (rem-own (angle t) (mul-fits binary32 (t ⊗ lit 2 1) pi) (angle-small t f h))
 
 -- nor is the angle turned by 2 pi
-pub turned-is-identity : (t : Float) → T (fits binary32 t) → T (below 1 1 t) → turned (angle t) ≡ angle t
+plus-turned : (t : Float) → T (fits binary32 t) → T (lessThan 1 1 t) → turned (angle t) ≡ angle t
 unfolding turned
-turned-is-identity t f h = rw (remainder-is-identity t f h, not-below-zero (angle t) (atMost-nonNeg (angle t) 6588397 1048576 (angle-small t f h)))
+plus-turned t f h = rw (plus-remainder t f h, not-below-zero (angle t) (atMost-nonNeg (angle t) 6588397 1048576 (angle-small t f h)))
+
+-- ---- the angle of −0 is −0
+minus-times : (e : ℤ) (n : ℕ) (g : ℤ) → fin true zero e ⊗ fin false n g ≡ fin true 0 (pos 0)
+unfolding mul
+minus-times e n g = round-minus (0 * up e * (n * up g)) (down e * down g) (omega arith) (mul-pos (down-pos e) (down-pos g))
+
+minus-angle : (t : Float) → MinusZero t → angle t ≡ fin true 0 (pos 0)
+minus-angle t (minus e) = rw (two-is, pi-is, minus-times e 1 (pos 1)) (minus-times (pos 0) 13176795 (negsuc 21))
+
+minus-turned : turned (fin true 0 (pos 0)) ≡ fin true 0 (pos 0)
+unfolding turned rem mul round lt
+minus-turned = refl
+
+pub turned-is-identity : (t : Float) → T (fits binary32 t) → T (isPhase t) → turned (angle t) ≡ angle t
+turned-is-identity t f h =
+    elim (phase-cases t h) [ inl z ↦ rw (minus-angle t z) minus-turned | inr l ↦ plus-turned t f l ]
 
 -- the sine with neither
-pub sine-is : (t : Float) → T (fits binary32 t) → T (below 1 1 t) → sinePart t ≡ cond (lt pi (angle t)) (arch (neg (lit 1 1)) (angle t ⊖ pi)) (arch (lit 1 1) (angle t))
+pub sine-is : (t : Float) → T (fits binary32 t) → T (isPhase t) → sinePart t ≡ cond (lt pi (angle t)) (arch (neg (lit 1 1)) (angle t ⊖ pi)) (arch (lit 1 1) (angle t))
 unfolding sineOf
 sine-is t f h = rw (turned-is-identity t f h)

@@ -10,7 +10,7 @@ use Rattle.laws.specs.Made.{Made}
 use Rattle.fixed.specs.declared.Given.{Given}
 use Rattle.fixed.specs.declared.Given.the-variants as G
 use Rattle.tone.specs.Duration.{durationOf, lessOne}
-use Rattle.polyblep.specs.Ranges.{below, atMost}
+use Rattle.polyblep.specs.Ranges.{isPhase, isStep}
 use Rattle.polyblep.specs.Waves.{sampleAt}
 use Rattle.polyblep.specs.declared.PolyBlepWaveform.{PolyBlepWaveform}
 use Rattle.polyblep.specs.declared.PolyBlepWaveform.the-variants as W
@@ -26,10 +26,10 @@ use Rattle.polyblep.specs.declared.PolyBlepStep.{PolyBlepStep}
 unfoldable pub stepOf : ℕ → ℕ → Float
 stepOf hz rate = heldToF (lit 0 1) (lit 499 1000) (ofInt binary32 (pos hz) ⊘ ofInt binary32 (pos (max rate 1)))
 
--- "The phase always stays at least 0 and below 1", the step within 0..0.499. The binary32 next to 0.499 is 8,371,831 ÷ 2^24.
+-- what every oscillator that a call takes or gives has
 pub record Valid (o : PolyBlepOscillator) : Type 0 where
-  pub phase : T (below 1 1 (o .phase))
-  pub step : T (atMost 8371831 16777216 (o .«phase_inc»))
+  pub phase : T (isPhase (o .phase))
+  pub step : T (isStep (o .«phase_inc»))
 
 -- its fields in their order
 abbrev pub oscillator : Float → Float → PolyBlepWaveform → ℕ → ℕ → PolyBlepOscillator

@@ -1,17 +1,12 @@
--- Where a phase and a step lie. Assumes nothing.
-use Prim.Native.Nat.{ℕ, _*_}
-use mathlib.Core.Bool.{Bool, false, not, _&&_}
-use lib.Dec.{ltb, leb}
-use lib.Ieee.{Float, nan, inf, fin, up, down}
+-- Where a phase and a step lie, in the words of the comparisons: −0 is at least 0 as +0 is, and a NaN lies nowhere. Assumes nothing.
+use mathlib.Core.Bool.{Bool, _&&_}
+use lib.Ieee.{Float, le, lt}
+use Rattle.laws.specs.F32.{lit}
 
--- x is a number from +0 up and below a ÷ b
-unfoldable pub below : ℕ → ℕ → Float → Bool
-below a b nan = false
-below a b (inf s) = false
-below a b (fin s m e) = not s && ltb (m * up e * b) (a * down e)
+-- "The phase always stays at least 0 and below 1."
+unfoldable pub isPhase : Float → Bool
+isPhase x = le (lit 0 1) x && lt x (lit 1 1)
 
--- x is a number from +0 up to a ÷ b
-unfoldable pub atMost : ℕ → ℕ → Float → Bool
-atMost a b nan = false
-atMost a b (inf s) = false
-atMost a b (fin s m e) = not s && leb (m * up e * b) (a * down e)
+-- "step = .. held to 0..0.499"
+unfoldable pub isStep : Float → Bool
+isStep x = le (lit 0 1) x && le x (lit 499 1000)

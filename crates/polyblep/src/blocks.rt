@@ -6,7 +6,7 @@ ghost use lib.Dec.{T};
 ghost use Rattle.tone.specs.Blocks.{Waved};
 ghost use Rattle.polyblep.specs.Blocks.{BlepBlock, moved, cutAt, cutOf};
 ghost use Rattle.polyblep.specs.Oscillators.{ValidVoice};
-ghost use Rattle.polyblep.specs.Ranges.{below, atMost};
+ghost use Rattle.polyblep.specs.Ranges.{isPhase, isStep};
 ghost use Rattle.polyblep.specs.declared.PolyBlepWaveform.the-variants as W;
 use super::PolyBlepOscillator;
 use super::PolyBlepVoice;
@@ -29,7 +29,7 @@ fn cut(s: f32) -> i8
 }
 
 fn fill_sine(phase: f32, inc: f32, n: usize, out: &mut [i8; 256]) -> f32
-    requires { ⌜ n ≤ 256 ⌝ ∗ ⌜ T (below 1 1 phase) ⌝ ∗ ⌜ T (atMost 8371831 16777216 inc) ⌝ }
+    requires { ⌜ n ≤ 256 ⌝ ∗ ⌜ T (isPhase phase) ⌝ ∗ ⌜ T (isStep inc) ⌝ }
     ensures { λ r. ⌜ Waved (moved inc) (cutAt W.Sine inc) n phase (now (out .entry)) r (now (out .exit)) ⌝ }
 {
     let mut p = phase;
@@ -78,7 +78,7 @@ fn fill_triangle(phase: f32, inc: f32, n: usize, out: &mut [i8; 256]) -> f32
 
 // n samples from the phase on, and the phase after them.
 fn fill_wave(waveform: PolyBlepWaveform, phase: f32, inc: f32, n: usize, out: &mut [i8; 256]) -> f32
-    requires { ⌜ n ≤ 256 ⌝ ∗ ⌜ T (below 1 1 phase) ⌝ ∗ ⌜ T (atMost 8371831 16777216 inc) ⌝ }
+    requires { ⌜ n ≤ 256 ⌝ ∗ ⌜ T (isPhase phase) ⌝ ∗ ⌜ T (isStep inc) ⌝ }
     ensures { λ r. ⌜ Waved (moved inc) (cutAt waveform inc) n phase (now (out .entry)) r (now (out .exit)) ⌝ }
 {
     match waveform {

@@ -2,7 +2,7 @@
 ghost use mathlib.Core.Path.{_≡_};
 ghost use lib.Dec.{T};
 ghost use Rattle.polyblep.specs.Blep.{polyBlep, polyBlamp};
-ghost use Rattle.polyblep.specs.Ranges.{below};
+ghost use Rattle.polyblep.specs.Ranges.{isPhase};
 ghost use Rattle.polyblep.specs.Sine.{arch};
 ghost use Rattle.polyblep.specs.Waves.{sinePart};
 
@@ -51,7 +51,7 @@ fn arch_f32(sign: f32, y: f32) -> f32
 // The source's `sin_f32(t * 2.0 * PI)`. Its remainder by 2 PI and the turn of a negative angle change nothing at a phase of
 // 0..1 (proofs/Turn.antt), so neither is computed here.
 pub(crate) fn sine_part(t: f32) -> f32
-    requires { ⌜ T (below 1 1 t) ⌝ }
+    requires { ⌜ T (isPhase t) ⌝ }
     ensures { λ r. ⌜ r ≡ sinePart t ⌝ }
 {
     let x = t * 2.0 * PI;

@@ -5,7 +5,7 @@ use super::corrections::poly_blep;
 use super::corrections::sine_part;
 ghost use mathlib.Core.Path.{_≡_};
 ghost use lib.Dec.{T};
-ghost use Rattle.polyblep.specs.Ranges.{below};
+ghost use Rattle.polyblep.specs.Ranges.{isPhase};
 ghost use Rattle.polyblep.specs.Waves.{sawtooth, halfTurn, square, triangle, shape, sampleAt};
 
 pub(crate) fn sawtooth_at(t: f32, dt: f32) -> f32
@@ -44,7 +44,7 @@ pub(crate) fn triangle_at(t: f32, dt: f32) -> f32
 }
 
 fn shape_at(waveform: PolyBlepWaveform, t: f32, dt: f32) -> f32
-    requires { ⌜ T (below 1 1 t) ⌝ }
+    requires { ⌜ T (isPhase t) ⌝ }
     ensures { λ r. ⌜ r ≡ shape waveform t dt ⌝ }
 {
     match waveform {
@@ -56,7 +56,7 @@ fn shape_at(waveform: PolyBlepWaveform, t: f32, dt: f32) -> f32
 }
 
 pub(crate) fn sample_at(waveform: PolyBlepWaveform, t: f32, dt: f32) -> f32
-    requires { ⌜ T (below 1 1 t) ⌝ }
+    requires { ⌜ T (isPhase t) ⌝ }
     ensures { λ r. ⌜ r ≡ sampleAt waveform t dt ⌝ }
 {
     fixed::clamp_f32(shape_at(waveform, t, dt), -1.0, 1.0)

@@ -2,36 +2,22 @@
 use borrow.Author.Needs.{needs}
 use native.Mathlib.Omega.{arith}
 use mathlib.Core.Path.{sym}
-use mathlib.Core.Bool.{not}
-use Prim.Native.Nat.{ℕ}
-use lib.Dec.{T}
-use lib.Ieee.{Float, nan, inf, fin, isNan}
 use Rattle.hex.proofs.Texts.{then}
-use Rattle.polyblep.specs.Ranges.{below, atMost}
+use Rattle.polyblep.proofs.Ranges.{phase-some, step-some}
 use Rattle.fields.proofs.put_polyblep.Statement.{statement}
 use Rattle.fields.proofs.put_polyblep.Tie as tie
-
-below-some : (a b : ℕ) (x : Float) → T (below a b x) → T (not (isNan x))
-unfolding below isNan
-below-some a b (inf s) h = tt
-below-some a b (fin s m e) h = tt
-
-atMost-some : (a b : ℕ) (x : Float) → T (atMost a b x) → T (not (isNan x))
-unfolding atMost isNan
-atMost-some a b (inf s) h = tt
-atMost-some a b (fin s m e) h = tt
 
 bits-of-requires : tie.Need-bits-of-requires
 bits-of-requires c κs =
     let b1 = c .before in
     let b2 = b1 .before in
-    rw (c .phase .ensures, b1 .oscillator .ensures) (below-some 1 1 _ (b2 .pre .osc .phase))
+    rw (c .phase .ensures, b1 .oscillator .ensures) (phase-some _ (b2 .pre .osc .phase))
 
 bits-of-requires-2 : tie.Need-bits-of-requires-2
 bits-of-requires-2 c κs =
     let b1 = c .before .before .before in
     let b2 = b1 .before in
-    rw (c .phase-inc .ensures, b1 .oscillator .ensures) (atMost-some 8371831 16777216 _ (b2 .pre .osc .step))
+    rw (c .phase-inc .ensures, b1 .oscillator .ensures) (step-some _ (b2 .pre .osc .step))
 
 returns : tie.Need-returns
 returns c =

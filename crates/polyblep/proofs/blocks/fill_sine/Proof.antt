@@ -6,16 +6,15 @@ use native.Mathlib.Omega.{arith}
 use lib.Dec.{T}
 use Rattle.tone.proofs.Loops.{Left, left-start, left-turn, left-end}
 use Rattle.polyblep.specs.Blocks.{moved, cutAt}
-use Rattle.polyblep.specs.Ranges.{below}
+use Rattle.polyblep.specs.Ranges.{isPhase}
 use Rattle.polyblep.specs.Waves.{shape, sampleAt}
 use Rattle.polyblep.specs.declared.PolyBlepWaveform.the-variants as W
 use Rattle.polyblep.proofs.Keep.{keeps}
-use Rattle.polyblep.proofs.Ranges.{step→half}
 use Rattle.polyblep.proofs.blocks.fill_sine.Statement.{statement}
 use Rattle.polyblep.proofs.blocks.fill_sine.Tie as tie
 
 abbrev Inv-loop : tie.InvT-loop
-Inv-loop phase inc n out₀ p₀ k₀ out p k = Left (moved inc) (cutAt W.Sine inc) n phase out₀ k p out × T (below 1 1 p)
+Inv-loop phase inc n out₀ p₀ k₀ out p k = Left (moved inc) (cutAt W.Sine inc) n phase out₀ k p out × T (isPhase p)
 
 abbrev μ-loop : tie.MeasureT-loop
 μ-loop phase inc n out₀ p₀ k₀ out p k = n - k
@@ -32,7 +31,7 @@ loop-again c =
     let a = s .before .before .args in
     let f = s .before .before .pre in (
       left-turn (s .before .loop .inv .0) (s .loop-test .taken) (c .advance-phase .ensures) (rw (w .before .sine-part .ensures) at (w .cut .ensures)) (record { sfits = w .cut .ok }),
-      rw (c .advance-phase .ensures) (keeps (l .p) (a .inc) (l .inv .1) (step→half (a .inc) (f .1 .1))),
+      rw (c .advance-phase .ensures) (keeps (l .p) (a .inc) (l .inv .1) (f .1 .1)),
     )
 
 returns : tie.Need-returns Inv-loop μ-loop

@@ -26,7 +26,7 @@ returns-2 c =
     record {
       same = rw (h, c .new .ensures);
       number = rw h;
-      valid = record { inside = rw (c .new .ensures) (valid-idle k (record { attack = search needs; decay = search needs; release = search needs })) };
+      valid = record { inside = rw (c .new .ensures) (valid-idle k) };
     }
 
 pub open-spec : {M : Type 1} → statement M

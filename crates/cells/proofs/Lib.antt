@@ -1,3 +1,3 @@
--- What the proofs here share.
---     Turns    cells as text, as a loop goes through them
-mod Turns
+-- Laws on cells as text, for the proofs here and of callers.
+--     Turns    as a loop goes through them; all of a line where there is room: numbered-all
+pub mod Turns

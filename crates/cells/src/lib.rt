@@ -1,8 +1,8 @@
-// Lists of numbers as lines of digits, from the front of the buffer on: a number in so many digits, and every cell at its width.
+// Lists of numbers as lines of digits, from the front of the buffer on: a number in so many digits, and every cell at its width, as far
+// as the buffer goes.
 ghost use mathlib.Core.Path.{_≡_};
-ghost use Prim.Native.Nat.{_+_, _*_, _<_};
-ghost use lib.ListN.{length};
-ghost use Rattle.hex.specs.Hex.{Wrote};
+ghost use Prim.Native.Nat.{_+_};
+ghost use Rattle.hex.specs.Hex.{Laid};
 ghost use Rattle.cells.specs.Cells.{byteText, wideText, i8Text, i16Text, i32Text, numberedText};
 use fixed::as_u8;
 use hex::end_line;
@@ -11,8 +11,7 @@ use hex::unsigned16;
 use hex::unsigned32;
 
 pub fn put_u8s(out: &mut [u8; 262144], number: u64, digits: u8, cells: &[u8]) -> usize
-    requires { ⌜ digits + 2 * length (now cells) < 262144 ⌝ }
-    ensures { λ r. ⌜ Wrote (now (out .entry)) 0 (numberedText digits number byteText (now (cells .entry))) (now (out .exit)) r ⌝ }
+    ensures { λ r. ⌜ Laid (now (out .entry)) 0 (numberedText digits number byteText (now (cells .entry))) (now (out .exit)) r ⌝ }
 {
     let mut next = put(out, 0, number, digits);
     let mut i = 0;
@@ -24,8 +23,7 @@ pub fn put_u8s(out: &mut [u8; 262144], number: u64, digits: u8, cells: &[u8]) ->
 }
 
 pub fn put_u16s(out: &mut [u8; 262144], number: u64, digits: u8, cells: &[u16]) -> usize
-    requires { ⌜ digits + 4 * length (now cells) < 262144 ⌝ }
-    ensures { λ r. ⌜ Wrote (now (out .entry)) 0 (numberedText digits number wideText (now (cells .entry))) (now (out .exit)) r ⌝ }
+    ensures { λ r. ⌜ Laid (now (out .entry)) 0 (numberedText digits number wideText (now (cells .entry))) (now (out .exit)) r ⌝ }
 {
     let mut next = put(out, 0, number, digits);
     let mut i = 0;
@@ -37,8 +35,7 @@ pub fn put_u16s(out: &mut [u8; 262144], number: u64, digits: u8, cells: &[u16]) 
 }
 
 pub fn put_i8s(out: &mut [u8; 262144], number: u64, digits: u8, cells: &[i8]) -> usize
-    requires { ⌜ digits + 2 * length (now cells) < 262144 ⌝ }
-    ensures { λ r. ⌜ Wrote (now (out .entry)) 0 (numberedText digits number i8Text (now (cells .entry))) (now (out .exit)) r ⌝ }
+    ensures { λ r. ⌜ Laid (now (out .entry)) 0 (numberedText digits number i8Text (now (cells .entry))) (now (out .exit)) r ⌝ }
 {
     let mut next = put(out, 0, number, digits);
     let mut i = 0;
@@ -50,8 +47,7 @@ pub fn put_i8s(out: &mut [u8; 262144], number: u64, digits: u8, cells: &[i8]) ->
 }
 
 pub fn put_i16s(out: &mut [u8; 262144], number: u64, digits: u8, cells: &[i16]) -> usize
-    requires { ⌜ digits + 4 * length (now cells) < 262144 ⌝ }
-    ensures { λ r. ⌜ Wrote (now (out .entry)) 0 (numberedText digits number i16Text (now (cells .entry))) (now (out .exit)) r ⌝ }
+    ensures { λ r. ⌜ Laid (now (out .entry)) 0 (numberedText digits number i16Text (now (cells .entry))) (now (out .exit)) r ⌝ }
 {
     let mut next = put(out, 0, number, digits);
     let mut i = 0;
@@ -63,8 +59,7 @@ pub fn put_i16s(out: &mut [u8; 262144], number: u64, digits: u8, cells: &[i16]) 
 }
 
 pub fn put_i32s(out: &mut [u8; 262144], number: u64, digits: u8, cells: &[i32]) -> usize
-    requires { ⌜ digits + 8 * length (now cells) < 262144 ⌝ }
-    ensures { λ r. ⌜ Wrote (now (out .entry)) 0 (numberedText digits number i32Text (now (cells .entry))) (now (out .exit)) r ⌝ }
+    ensures { λ r. ⌜ Laid (now (out .entry)) 0 (numberedText digits number i32Text (now (cells .entry))) (now (out .exit)) r ⌝ }
 {
     let mut next = put(out, 0, number, digits);
     let mut i = 0;

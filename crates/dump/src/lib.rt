@@ -1,8 +1,8 @@
 // An engine's state as a dump prints it.
 ghost use mathlib.Core.Path.{_≡_};
-ghost use Prim.Native.Nat.{_+_, _≤_};
+ghost use Prim.Native.Nat.{_+_, _*_, _≤_};
 ghost use Rattle.mixer.specs.Mixers.{Valid, voicesOf};
-ghost use Rattle.hex.specs.Hex.{Wrote};
+ghost use Rattle.hex.specs.Hex.{Laid, Wrote};
 ghost use Rattle.dump.specs.Dumps.{policyNumber, modeNumber, bankCount, bankLength, bankRate, settingFields, runningFields, voiceLines, dumpText};
 use bank::BankSet;
 use fields::flag_number;
@@ -61,7 +61,7 @@ fn bank_fields(bank: BankSet) -> BankFields
 
 // N, policy, bank, rate, period, duty mode.
 fn put_settings(out: &mut [u8; 262144], m: Mixer) -> usize
-    ensures { λ r. ⌜ Wrote (now (out .entry)) 0 (settingFields m) (now (out .exit)) r × (r ≡ 128) ⌝ }
+    ensures { λ r. ⌜ Laid (now (out .entry)) 0 (settingFields m) (now (out .exit)) r × (r ≤ 128) ⌝ }
 {
     let policy = m.stealing_policy;
     let set = m.bank;
@@ -88,8 +88,7 @@ fn put_settings(out: &mut [u8; 262144], m: Mixer) -> usize
 
 // Master gain, mapper, fade.
 fn put_running(out: &mut [u8; 262144], at: usize, m: Mixer) -> usize
-    requires { ⌜ at ≤ 1000 ⌝ }
-    ensures { λ r. ⌜ Wrote (now (out .entry)) at (runningFields m) (now (out .exit)) r × (r ≡ at + 128) ⌝ }
+    ensures { λ r. ⌜ Laid (now (out .entry)) at (runningFields m) (now (out .exit)) r × (r ≤ at + 128) ⌝ }
 {
     let config = m.config;
     let mapper = m.mapper;
@@ -119,8 +118,7 @@ fn put_running(out: &mut [u8; 262144], at: usize, m: Mixer) -> usize
 
 fn put_voices(out: &mut [u8; 262144], at: usize, m: Mixer) -> usize
     requires { ⌜ Valid m ⌝ }
-    requires { ⌜ at ≤ 1000 ⌝ }
-    ensures { λ r. ⌜ Wrote (now (out .entry)) at (voiceLines (voicesOf m)) (now (out .exit)) r ⌝ }
+    ensures { λ r. ⌜ Laid (now (out .entry)) at (voiceLines (voicesOf m)) (now (out .exit)) r × (r ≤ at + 337 * 16) ⌝ }
 {
     let n = m.n;
     let mut next = at;

@@ -8,7 +8,7 @@ ghost use lib.Ieee.{binary32, toBits, isNan};
 ghost use Rattle.polyblep.specs.Oscillators.{ValidVoice};
 ghost use Rattle.voice.specs.Sources.{ValidSource};
 ghost use Rattle.voice.specs.Voices.{Valid};
-ghost use Rattle.hex.specs.Hex.{Wrote};
+ghost use Rattle.hex.specs.Hex.{Laid};
 ghost use Rattle.fields.specs.Read.{specAt, modeOf, toneWaveform, polyBlepWaveform};
 ghost use Rattle.fields.specs.States.{flagNumber, toneNumber, polyBlepNumber, phaseNumber, toneFields, polyBlepFields, fmFields, sourceFields, adsrText, voiceFields};
 use envelope::Adsr;
@@ -28,15 +28,15 @@ use voice::Voice;
 use voice::VoiceSource;
 
 // An envelope's times, from byte k on.
-pub fn spec_at(l: &[u8], k: usize) -> AdsrSpec
-    requires { ⌜ k ≤ 60000 ⌝ }
+pub fn spec_at(l: &[u8], k: u16) -> AdsrSpec
     ensures { λ r. ⌜ r ≡ specAt (now (l .entry)) k ⌝ }
 {
+    let at = k as usize;
     AdsrSpec {
-        attack_ms: wide_at(l, k),
-        decay_ms: wide_at(l, k + 2),
-        sustain_q8: byte_at(l, k + 4),
-        release_ms: wide_at(l, k + 5),
+        attack_ms: wide_at(l, at),
+        decay_ms: wide_at(l, at + 2),
+        sustain_q8: byte_at(l, at + 4),
+        release_ms: wide_at(l, at + 5),
     }
 }
 
@@ -119,8 +119,7 @@ fn bits_of(x: f32) -> u64
 }
 
 fn put_tone(out: &mut [u8; 262144], at: usize, v: ToneVoice) -> usize
-    requires { ⌜ at ≤ 200000 ⌝ }
-    ensures { λ r. ⌜ Wrote (now (out .entry)) at (toneFields v) (now (out .exit)) r × (r ≡ at + 96) ⌝ }
+    ensures { λ r. ⌜ Laid (now (out .entry)) at (toneFields v) (now (out .exit)) r × (r ≤ at + 96) ⌝ }
 {
     let w = v.waveform;
     let n4 = put_four(
@@ -136,9 +135,8 @@ fn put_tone(out: &mut [u8; 262144], at: usize, v: ToneVoice) -> usize
 }
 
 fn put_polyblep(out: &mut [u8; 262144], at: usize, v: PolyBlepVoice) -> usize
-    requires { ⌜ at ≤ 200000 ⌝ }
     requires { ⌜ ValidVoice v ⌝ }
-    ensures { λ r. ⌜ Wrote (now (out .entry)) at (polyBlepFields v) (now (out .exit)) r × (r ≡ at + 128) ⌝ }
+    ensures { λ r. ⌜ Laid (now (out .entry)) at (polyBlepFields v) (now (out .exit)) r × (r ≤ at + 128) ⌝ }
 {
     let osc = v.oscillator();
     let phase = bits_of(osc.phase());
@@ -153,8 +151,7 @@ fn put_polyblep(out: &mut [u8; 262144], at: usize, v: PolyBlepVoice) -> usize
 }
 
 fn put_fm(out: &mut [u8; 262144], at: usize, v: FmVoice) -> usize
-    requires { ⌜ at ≤ 200000 ⌝ }
-    ensures { λ r. ⌜ Wrote (now (out .entry)) at (fmFields v) (now (out .exit)) r × (r ≡ at + 112) ⌝ }
+    ensures { λ r. ⌜ Laid (now (out .entry)) at (fmFields v) (now (out .exit)) r × (r ≤ at + 112) ⌝ }
 {
     let n4 = put_four(
         out,
@@ -170,9 +167,8 @@ fn put_fm(out: &mut [u8; 262144], at: usize, v: FmVoice) -> usize
 }
 
 pub fn put_source(out: &mut [u8; 262144], at: usize, s: VoiceSource) -> usize
-    requires { ⌜ at ≤ 200000 ⌝ }
     requires { ⌜ ValidSource s ⌝ }
-    ensures { λ r. ⌜ Wrote (now (out .entry)) at (sourceFields s) (now (out .exit)) r × (r ≤ at + 128) ⌝ }
+    ensures { λ r. ⌜ Laid (now (out .entry)) at (sourceFields s) (now (out .exit)) r × (r ≤ at + 128) ⌝ }
 {
     match s {
         VoiceSource::Idle => put(out, at, 0, 16),
@@ -183,8 +179,7 @@ pub fn put_source(out: &mut [u8; 262144], at: usize, s: VoiceSource) -> usize
 }
 
 pub fn put_adsr(out: &mut [u8; 262144], at: usize, a: Adsr) -> usize
-    requires { ⌜ at ≤ 200000 ⌝ }
-    ensures { λ r. ⌜ Wrote (now (out .entry)) at (adsrText a) (now (out .exit)) r × (r ≡ at + 144) ⌝ }
+    ensures { λ r. ⌜ Laid (now (out .entry)) at (adsrText a) (now (out .exit)) r × (r ≤ at + 144) ⌝ }
 {
     let s = a.spec;
     let p = a.phase;
@@ -208,9 +203,8 @@ pub fn put_adsr(out: &mut [u8; 262144], at: usize, a: Adsr) -> usize
 }
 
 pub fn put_voice(out: &mut [u8; 262144], at: usize, v: Voice) -> usize
-    requires { ⌜ at ≤ 150000 ⌝ }
     requires { ⌜ Valid v ⌝ }
-    ensures { λ r. ⌜ Wrote (now (out .entry)) at (voiceFields v) (now (out .exit)) r × (r ≤ at + 336) ⌝ }
+    ensures { λ r. ⌜ Laid (now (out .entry)) at (voiceFields v) (now (out .exit)) r × (r ≤ at + 336) ⌝ }
 {
     let s = v.source;
     let a = v.adsr;

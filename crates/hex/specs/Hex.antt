@@ -4,7 +4,7 @@ use Prim.Native.Nat.{ℕ, zero, suc, _+_, _-_, _*_, _/_, _%_, _≤_}
 use mathlib.Core.Bool.{Bool, true, cond, _&&_, _||_}
 use mathlib.Core.List.{List, [], _∷_, _++_}
 use lib.Dec.{leb, ltb}
-use lib.ListN.{length, getD}
+use lib.ListN.{length, getD, take}
 use lib.Seq.{sets}
 
 unfoldable pub between : ℕ → ℕ → ℕ → Bool
@@ -50,7 +50,16 @@ fourOf a b c d = hexOf 16 a ++ hexOf 16 b ++ hexOf 16 c ++ hexOf 16 d
 abbrev pub newline : List ℕ
 newline = 10 ∷ []
 
--- the text was laid over what stood from a place on; next is the place after it
+-- as much of a text as the buffer has room for, from a place on
+unfoldable pub fitting : ℕ → List ℕ → List ℕ
+fitting at text = take (262144 - at) text
+
+-- as much was laid over what stood from the place on; next is the place after it
+pub record Laid (before : List ℕ) (at : ℕ) (text after : List ℕ) (next : ℕ) : Type 0 where
+  pub laid : after ≡ sets before at (fitting at text)
+  pub place : next ≡ at + length (fitting at text)
+
+-- all of the text was laid so
 pub record Wrote (before : List ℕ) (at : ℕ) (text after : List ℕ) (next : ℕ) : Type 0 where
   pub laid : after ≡ sets before at text
   pub place : next ≡ at + length text

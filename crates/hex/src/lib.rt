@@ -1,11 +1,11 @@
 // Digits of a line, and answers as digits.
 ghost use mathlib.Core.Path.{_≡_};
 ghost use mathlib.Core.List.{_++_};
-ghost use Prim.Native.Nat.{_+_, _*_, _≤_, _<_};
+ghost use Prim.Native.Nat.{_+_, _≤_, _<_};
 ghost use lib.ListN.{getD};
 ghost use mir.Syntax.{w16, w32, w64};
 ghost use mir.Val.{toZ, ofZ};
-ghost use Rattle.hex.specs.Hex.{isDigit, allDigits, digitOf, byteAt, wideAt, longAt, threeAt, digitChar, hexOf, fourOf, newline, Wrote};
+ghost use Rattle.hex.specs.Hex.{isDigit, allDigits, digitOf, byteAt, wideAt, longAt, threeAt, digitChar, hexOf, fourOf, newline, Laid, Wrote};
 
 fn is_digit(c: u8) -> bool
     ensures { λ r. ⌜ r ≡ isDigit c ⌝ }
@@ -47,32 +47,40 @@ fn at(l: &[u8], i: usize) -> u8
     if i < l.len() { l[i] } else { 0 }
 }
 
-// The fields of one byte, two, four and three, from byte k on. No line has 65,536 bytes.
+// The fields of one byte, two, four and three, from byte k on; past the line's end there are no digits to look at.
 pub fn byte_at(l: &[u8], k: usize) -> u8
-    requires { ⌜ k < 65536 ⌝ }
     ensures { λ r. ⌜ r ≡ byteAt (now (l .entry)) k ⌝ }
 {
+    if k > l.len() / 2 {
+        return 0;
+    }
     16 * digit(at(l, 2 * k)) + digit(at(l, 2 * k + 1))
 }
 
 pub fn wide_at(l: &[u8], k: usize) -> u16
-    requires { ⌜ k < 65535 ⌝ }
     ensures { λ r. ⌜ r ≡ wideAt (now (l .entry)) k ⌝ }
 {
+    if k > l.len() / 2 {
+        return 0;
+    }
     256 * (byte_at(l, k) as u16) + (byte_at(l, k + 1) as u16)
 }
 
 pub fn long_at(l: &[u8], k: usize) -> u32
-    requires { ⌜ k < 65533 ⌝ }
     ensures { λ r. ⌜ r ≡ longAt (now (l .entry)) k ⌝ }
 {
+    if k > l.len() / 2 {
+        return 0;
+    }
     65536 * (wide_at(l, k) as u32) + (wide_at(l, k + 2) as u32)
 }
 
 pub fn three_at(l: &[u8], k: usize) -> u32
-    requires { ⌜ k < 65533 ⌝ }
     ensures { λ r. ⌜ r ≡ threeAt (now (l .entry)) k ⌝ }
 {
+    if k > l.len() / 2 {
+        return 0;
+    }
     256 * (wide_at(l, k) as u32) + (byte_at(l, k + 2) as u32)
 }
 
@@ -125,25 +133,29 @@ fn digit_char(n: u8) -> u8
     if n < 10 { 48 + n } else { 55 + n }
 }
 
-// The low digits of the value from a place on, the last one first. It gives the place after them.
+// The low digits of the value from a place on, the last one first; a digit past the buffer's end is left out. It gives the place after
+// them.
 pub fn put(out: &mut [u8; 262144], at: usize, value: u64, digits: u8) -> usize
-    requires { ⌜ at + digits ≤ 262144 ⌝ }
-    ensures { λ r. ⌜ Wrote (now (out .entry)) at (hexOf digits value) (now (out .exit)) r × (r ≡ at + digits) ⌝ }
+    ensures { λ r. ⌜ Laid (now (out .entry)) at (hexOf digits value) (now (out .exit)) r × (r ≤ at + digits) ⌝ }
 {
+    if at >= 262144 {
+        return at;
+    }
     let end = at + (digits as usize);
     let mut place = end;
     let mut rest = value;
     while place > at {
         place -= 1;
-        out[place] = digit_char((rest % 16) as u8);
+        if place < 262144 {
+            out[place] = digit_char((rest % 16) as u8);
+        }
         rest = rest / 16;
     }
-    end
+    if end < 262144 { end } else { 262144 }
 }
 
 pub fn put_four(out: &mut [u8; 262144], at: usize, a: u64, b: u64, c: u64, d: u64) -> usize
-    requires { ⌜ at ≤ 262080 ⌝ }
-    ensures { λ r. ⌜ Wrote (now (out .entry)) at (fourOf a b c d) (now (out .exit)) r × (r ≡ at + 64) ⌝ }
+    ensures { λ r. ⌜ Laid (now (out .entry)) at (fourOf a b c d) (now (out .exit)) r × (r ≤ at + 64) ⌝ }
 {
     let n1 = put(out, at, a, 16);
     let n2 = put(out, n1, b, 16);
@@ -152,9 +164,11 @@ pub fn put_four(out: &mut [u8; 262144], at: usize, a: u64, b: u64, c: u64, d: u6
 }
 
 pub fn end_line(out: &mut [u8; 262144], at: usize) -> usize
-    requires { ⌜ at < 262144 ⌝ }
-    ensures { λ r. ⌜ Wrote (now (out .entry)) at newline (now (out .exit)) r ⌝ }
+    ensures { λ r. ⌜ Laid (now (out .entry)) at newline (now (out .exit)) r × (r ≤ at + 1) ⌝ }
 {
+    if at >= 262144 {
+        return at;
+    }
     out[at] = 10;
     at + 1
 }

@@ -7,7 +7,6 @@ ghost use Rattle.voice.specs.Voices as S;
 ghost use Rattle.mixer.specs.Mixers.{Valid, ValidChanged};
 ghost use Rattle.play.specs.Fades.{firstReleased, begun, fadedBy, faded};
 use bank::EntryRead;
-use config::FadeStep;
 use envelope::AdsrSpec;
 use error::AudioError;
 use mixer::Changed;
@@ -43,7 +42,7 @@ fn begun(m: Mixer, v: Voice, step: u8) -> Mixer
     out
 }
 
-// With voice 0 released: the voice that started, or why none did. At a valid rate there is a step.
+// With voice 0 released: the voice that started, or why none did.
 fn faded_by(m: Mixer, duration_ms: u16, started: EntryStart) -> Changed
     requires { ⌜ Valid m ⌝ }
     requires { ⌜ (2 ≤ m .n) × ValidStart started ⌝ }
@@ -56,15 +55,9 @@ fn faded_by(m: Mixer, duration_ms: u16, started: EntryStart) -> Changed
             outcome: Outcome::Refused(e),
             mixer: m,
         },
-        EntryStart::Voice(v) => match step {
-            FadeStep::Step(s) => Changed {
-                outcome: Outcome::Done,
-                mixer: begun(m, v, s),
-            },
-            FadeStep::Refused(e) => Changed {
-                outcome: Outcome::Refused(e),
-                mixer: m,
-            },
+        EntryStart::Voice(v) => Changed {
+            outcome: Outcome::Done,
+            mixer: begun(m, v, step),
         },
     }
 }

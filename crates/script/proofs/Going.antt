@@ -1,13 +1,11 @@
 -- A run of steps with their texts, as a loop goes through it. Assumes nothing.
 use mathlib.Core.Path.{_≡_, refl}
 use mathlib.Core.List.{List, [], _++_}
-use Prim.Native.Nat.{ℕ, zero, suc, _+_, _-_, _*_, _≤_, _<_}
-use native.Mathlib.Nat.{lt-irrefl, add-zero, mul-zero, mul-suc}
+use Prim.Native.Nat.{ℕ, zero, suc, _-_, _≤_, _<_}
+use native.Mathlib.Nat.{lt-irrefl}
 use native.Mathlib.Omega.{arith}
-use lib.ListN.{length, length-append}
-use lib.Seq.{sets}
-use Rattle.laws.proofs.Lists.{sets-append}
-use Rattle.hex.specs.Hex.{Wrote}
+use Rattle.hex.specs.Hex.{Laid}
+use Rattle.hex.proofs.Texts.{Left, left-start, left-turn, left-end}
 use Rattle.script.specs.Runs.{stepped, texts}
 
 module _ {S : Type 0} (step : S → S) where
@@ -31,31 +29,20 @@ module _ {S : Type 0} (step : S → S) (text : S → List ℕ) where
   unfolding texts
   texts-none n s h = let e : n ≡ 0 = omega arith in rw e
 
-  length-texts : (w : ℕ) → ((s : S) → length (text s) ≡ w) → (n : ℕ) (s : S) → length (texts step text n s) ≡ w * n
-  unfolding texts
-  length-texts w f zero s = rw mul-zero
-  length-texts w f (suc n) s = rw (length-append, f (step s), length-texts w f n (step s), mul-suc) (omega arith)
-
   -- what is left to do, from where the loop stands, is what there was to do
   pub record Going (before : List ℕ) (at n : ℕ) (first : S) (after : List ℕ) (next left : ℕ) (s : S) : Type 0 where
-    pub laid : sets after next (texts step text left s) ≡ sets before at (texts step text n first)
+    pub laid : Left before at (texts step text n first) after next (texts step text left s)
     pub same : stepped step left s ≡ stepped step n first
 
   pub going-start : (out : List ℕ) (at n : ℕ) (s : S) → Going out at n s out at n s
-  going-start out at n s = record { laid = refl; same = refl }
+  going-start out at n s = record { laid = left-start out at (texts step text n s); same = refl }
 
-  pub going-turn : {before after new : List ℕ} {at n next place left : ℕ} {first s r : S} → 0 < left → r ≡ step s → Going before at n first after next left s → Wrote after next (text r) new place → Going before at n first new place (left - 1) r
-  going-turn {before} {after} {new} {at} {n} {next} {place} {left} {first} {s} {r} h e g w =
+  pub going-turn : {before after new : List ℕ} {at n next place left : ℕ} {first s r : S} → 0 < left → r ≡ step s → Going before at n first after next left s → Laid after next (text r) new place → Going before at n first new place (left - 1) r
+  going-turn {left = left} {s = s} {r = r} h e g w =
       record {
-        laid = rw (w .place, w .laid, sets-append after next (text r) (texts step text (left - 1) r), e, ← texts-one left s h) (g .laid);
+        laid = rw e (left-turn (rw (texts-one left s h) at (g .laid)) (rw e at w));
         same = rw (e, ← stepped-one step left s h) (g .same);
       }
 
-  pub going-end : {before after : List ℕ} {at n next left : ℕ} {first s : S} (w : ℕ) → ((s : S) → length (text s) ≡ w) → left ≤ 0 → next + w * left ≡ at + w * n → next ≤ 262144 → Going before at n first after next left s → Wrote before at (texts step text n first) after next
-  going-end {before} {after} {at} {n} {next} {left} {first} {s} w f h e m g =
-      let z : left ≡ 0 = omega arith in
-      record {
-        laid = rw (texts-none left s h) at (g .laid);
-        place = rw (length-texts w f n first) (rw (z, mul-zero w, add-zero next) at e);
-        room = m;
-      }
+  pub going-end : {before after : List ℕ} {at n next left : ℕ} {first s : S} → left ≤ 0 → Going before at n first after next left s → Laid before at (texts step text n first) after next
+  going-end {left = left} {s = s} h g = left-end (rw (texts-none left s h) at (g .laid))

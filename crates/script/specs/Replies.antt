@@ -23,9 +23,6 @@ use Rattle.output.specs.declared.PeriodRead.{PeriodRead}
 use Rattle.output.specs.declared.PeriodRead.the-variants as P
 use Rattle.output.specs.declared.PeriodRead.the-variants.{Accepted}
 use Rattle.config.specs.Config.{fadeStep}
-use Rattle.config.specs.declared.FadeStep.{FadeStep}
-use Rattle.config.specs.declared.FadeStep.the-variants as F
-use Rattle.config.specs.declared.FadeStep.the-variants.{Step}
 use Rattle.tier.specs.Kinds.{kindOf, byteOf}
 use Rattle.tier.specs.declared.KindRead.{KindRead}
 use Rattle.tier.specs.declared.KindRead.the-variants.{Kind, Unknown}
@@ -83,13 +80,9 @@ dutyAnswer s (P.Refused e) = refused 4 e
 unfoldable pub dutyReply : List ℕ → Reply
 dutyReply l = dutyAnswer (sampleAt l 1) (periodRead (wideAt l 2))
 
--- 47, fade step: "ms (2), rate (4) | number, then 2 digits"
-abbrev pub fadeAnswer : FadeStep → Reply
-fadeAnswer (Step n) = accepted 2 n
-fadeAnswer (F.Refused e) = refused 2 e
-
+-- 47, fade step: "ms (2), rate (4) | 00, then 2 digits"
 unfoldable pub fadeReply : List ℕ → Reply
-fadeReply l = fadeAnswer (fadeStep (wideAt l 1) (longAt l 3))
+fadeReply l = Word (fadeStep (wideAt l 1) (longAt l 3)) 4
 
 -- 50, decibels to gain: "binary32 by its bits (4) | 2 digits"
 unfoldable pub toGainReply : List ℕ → Reply

@@ -2,7 +2,6 @@
 ghost use mathlib.Core.Path.{_≡_};
 ghost use Rattle.script.specs.Replies.{limiterReply, dutyReply, fadeReply, conversionsReply, conversion32Reply};
 use crate::Reply;
-use config::FadeStep;
 use hex::byte_at;
 use hex::long_at;
 use hex::signed32;
@@ -49,16 +48,9 @@ pub(crate) fn duty(l: &[u8]) -> Reply
 pub(crate) fn fade_step(l: &[u8]) -> Reply
     ensures { λ r. ⌜ r ≡ fadeReply (now (l .entry)) ⌝ }
 {
-    let step = config::crossfade_step_q8(wide_at(l, 1), long_at(l, 3));
-    match step {
-        FadeStep::Step(n) => Reply::Word {
-            value: n as u64,
-            digits: 4,
-        },
-        FadeStep::Refused(e) => Reply::Word {
-            value: (e.number() as u64) * 256,
-            digits: 4,
-        },
+    Reply::Word {
+        value: config::crossfade_step_q8(wide_at(l, 1), long_at(l, 3)) as u64,
+        digits: 4,
     }
 }
 

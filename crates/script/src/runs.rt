@@ -7,7 +7,7 @@ ghost use Rattle.envelope.specs.declared.Opened.the-variants as O;
 ghost use Rattle.output.specs.declared.PeriodRead.the-variants as P;
 ghost use Rattle.output.specs.Duty.{ValidPeriod, ValidMapper, ValidMapped};
 ghost use Rattle.laws.specs.Made.{Made};
-ghost use Rattle.hex.specs.Hex.{wideAt, longAt, Wrote};
+ghost use Rattle.hex.specs.Hex.{wideAt, longAt, Laid, Wrote};
 ghost use Rattle.fields.specs.Read.{specAt};
 ghost use Rattle.script.specs.Runs.{stepped, texts, levelText, levelsOf, levelsText, stateOf, stateText, mapperAt, mapStep, dutyText, mapperLine, dutiesOf, dutiesText};
 use envelope::Envelope;
@@ -45,9 +45,8 @@ fn open_at(l: &[u8]) -> Opened
 // Ticks, each with its level after it.
 fn ticks(out: &mut [u8; 262144], at: usize, first: Envelope, count: u16) -> Ticked
     requires { ⌜ ValidEnvelope first ⌝ }
-    requires { ⌜ at + 2 * count ≤ 262144 ⌝ }
-    ensures { λ r. ⌜ Wrote (now (out .entry)) at (texts tickedEnvelope levelText count first) (now (out .exit)) (r .next) ⌝ }
-    ensures { λ r. ⌜ r .next ≡ at + 2 * count ⌝ }
+    ensures { λ r. ⌜ Laid (now (out .entry)) at (texts tickedEnvelope levelText count first) (now (out .exit)) (r .next) ⌝ }
+    ensures { λ r. ⌜ r .next ≤ at + 2 * count ⌝ }
     ensures { λ r. ⌜ Made ValidEnvelope (stepped tickedEnvelope count first) (r .envelope) ⌝ }
 {
     let mut e = first;
@@ -144,8 +143,8 @@ fn map_all(
     count: usize,
 ) -> MappedTo
     requires { ⌜ ValidPeriod period × ValidMapped first × (count ≤ 4096) ⌝ }
-    ensures { λ r. ⌜ Wrote (now (out .entry)) 3 (texts (mapStep (now (l .entry)) (period .counts)) dutyText count (8, first)) (now (out .exit)) (r .next) ⌝ }
-    ensures { λ r. ⌜ r .next ≡ 3 + 4 * count ⌝ }
+    ensures { λ r. ⌜ Laid (now (out .entry)) 3 (texts (mapStep (now (l .entry)) (period .counts)) dutyText count (8, first)) (now (out .exit)) (r .next) ⌝ }
+    ensures { λ r. ⌜ r .next ≤ 3 + 4 * count ⌝ }
     ensures { λ r. ⌜ Made ValidMapped (stepped (mapStep (now (l .entry)) (period .counts)) count (8, first) .1) (r .last) ⌝ }
 {
     let mut last = first;
@@ -163,8 +162,7 @@ fn map_all(
 }
 
 fn put_mapper(out: &mut [u8; 262144], at: usize, m: PwmMapper) -> usize
-    requires { ⌜ at ≤ 100000 ⌝ }
-    ensures { λ r. ⌜ Wrote (now (out .entry)) at (mapperLine m) (now (out .exit)) r ⌝ }
+    ensures { λ r. ⌜ Laid (now (out .entry)) at (mapperLine m) (now (out .exit)) r × (r ≤ at + 25) ⌝ }
 {
     let first = m.sigma_delta;
     let second = m.sigma_delta_2nd;

@@ -3,7 +3,7 @@ ghost use mathlib.Core.Path.{_≡_};
 ghost use Prim.Native.Nat.{_+_, _*_, _≤_, _<_, min};
 ghost use Rattle.laws.specs.Made.{Made};
 ghost use Rattle.voice.specs.Sources.{ValidSource, ValidStep};
-ghost use Rattle.hex.specs.Hex.{wideAt, Wrote};
+ghost use Rattle.hex.specs.Hex.{wideAt, Laid, Wrote};
 ghost use Rattle.script.specs.Replies.{waveformsOf, sourceReply};
 ghost use Rattle.script.specs.Runs.{stepped, texts};
 ghost use Rattle.script.specs.Sounds.{sourceAt, passedOver, request, givenNumber, givenText, carrierNumber, sourceRun, sourceText};
@@ -71,7 +71,6 @@ pub(crate) fn source_at(l: &[u8]) -> VoiceSource
 
 // A record that prints more is bad; where it is not, this is the field.
 pub(crate) fn printed_at(l: &[u8], k: usize) -> u16
-    requires { ⌜ k < 65535 ⌝ }
     ensures { λ r. ⌜ (r ≡ min (wideAt (now (l .entry)) k) 16000) × (r ≤ 16000) ⌝ }
 {
     let n = wide_at(l, k);
@@ -114,9 +113,8 @@ fn skipped(first: VoiceSource, count: u32) -> VoiceSource
 // Requests, each with what it gave.
 fn requests(out: &mut [u8; 262144], at: usize, first: SourceStep, count: u16) -> Requested
     requires { ⌜ ValidStep first ⌝ }
-    requires { ⌜ at + 4 * count ≤ 262144 ⌝ }
-    ensures { λ r. ⌜ Wrote (now (out .entry)) at (texts request givenText count first) (now (out .exit)) (r .next) ⌝ }
-    ensures { λ r. ⌜ r .next ≡ at + 4 * count ⌝ }
+    ensures { λ r. ⌜ Laid (now (out .entry)) at (texts request givenText count first) (now (out .exit)) (r .next) ⌝ }
+    ensures { λ r. ⌜ r .next ≤ at + 4 * count ⌝ }
     ensures { λ r. ⌜ Made ValidStep (stepped request count first) (r .last) ⌝ }
 {
     let mut last = first;

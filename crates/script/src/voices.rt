@@ -3,7 +3,7 @@ ghost use mathlib.Core.Path.{_≡_};
 ghost use Prim.Native.Nat.{_+_, _*_, _≤_};
 ghost use Rattle.laws.specs.Made.{Made};
 ghost use Rattle.voice.specs.Voices.{Valid, ValidVoiceStep, ValidStereoStep};
-ghost use Rattle.hex.specs.Hex.{longAt, Wrote};
+ghost use Rattle.hex.specs.Hex.{longAt, Laid, Wrote};
 ghost use Rattle.script.specs.Replies.{voiceReply};
 ghost use Rattle.script.specs.Runs.{stepped, texts};
 ghost use Rattle.script.specs.Voices.{voiceAt, letGoIf, heldAt, passedFrame, monoFrame, stereoFrame, frameText, leftNumber, rightNumber, pairOf, pairText, framesText, framesLast, voiceRun, voiceText};
@@ -100,9 +100,8 @@ fn held_at(l: &[u8]) -> Voice
 
 fn frames(out: &mut [u8; 262144], at: usize, first: VoiceStep, count: u16) -> Framed
     requires { ⌜ ValidVoiceStep first ⌝ }
-    requires { ⌜ at + 4 * count ≤ 262144 ⌝ }
-    ensures { λ r. ⌜ Wrote (now (out .entry)) at (texts monoFrame frameText count first) (now (out .exit)) (r .next) ⌝ }
-    ensures { λ r. ⌜ r .next ≡ at + 4 * count ⌝ }
+    ensures { λ r. ⌜ Laid (now (out .entry)) at (texts monoFrame frameText count first) (now (out .exit)) (r .next) ⌝ }
+    ensures { λ r. ⌜ r .next ≤ at + 4 * count ⌝ }
     ensures { λ r. ⌜ Made Valid (stepped monoFrame count first .voice) (r .voice) ⌝ }
 {
     let mut last = first;
@@ -139,8 +138,7 @@ fn right_number(g: StereoGiven) -> u64
 }
 
 fn put_pair(out: &mut [u8; 262144], at: usize, g: StereoGiven) -> usize
-    requires { ⌜ at + 6 ≤ 262144 ⌝ }
-    ensures { λ r. ⌜ Wrote (now (out .entry)) at (pairOf g) (now (out .exit)) r × (r ≡ at + 6) ⌝ }
+    ensures { λ r. ⌜ Laid (now (out .entry)) at (pairOf g) (now (out .exit)) r × (r ≤ at + 6) ⌝ }
 {
     let n = put(out, at, left_number(g), 4);
     put(out, n, right_number(g), 2)
@@ -148,9 +146,8 @@ fn put_pair(out: &mut [u8; 262144], at: usize, g: StereoGiven) -> usize
 
 fn pairs(out: &mut [u8; 262144], at: usize, first: StereoStep, count: u16) -> Framed
     requires { ⌜ ValidStereoStep first ⌝ }
-    requires { ⌜ at + 6 * count ≤ 262144 ⌝ }
-    ensures { λ r. ⌜ Wrote (now (out .entry)) at (texts stereoFrame pairText count first) (now (out .exit)) (r .next) ⌝ }
-    ensures { λ r. ⌜ r .next ≡ at + 6 * count ⌝ }
+    ensures { λ r. ⌜ Laid (now (out .entry)) at (texts stereoFrame pairText count first) (now (out .exit)) (r .next) ⌝ }
+    ensures { λ r. ⌜ r .next ≤ at + 6 * count ⌝ }
     ensures { λ r. ⌜ Made Valid (stepped stereoFrame count first .voice) (r .voice) ⌝ }
 {
     let mut last = first;
@@ -171,8 +168,8 @@ fn pairs(out: &mut [u8; 262144], at: usize, first: StereoStep, count: u16) -> Fr
 // On one side or on two.
 fn put_frames(out: &mut [u8; 262144], at: usize, stereo: u8, voice: Voice, count: u16) -> Framed
     requires { ⌜ Valid voice ⌝ }
-    requires { ⌜ (at ≤ 100000) × (count ≤ 16000) ⌝ }
-    ensures { λ r. ⌜ Wrote (now (out .entry)) at (framesText stereo count voice) (now (out .exit)) (r .next) ⌝ }
+    requires { ⌜ count ≤ 16000 ⌝ }
+    ensures { λ r. ⌜ Laid (now (out .entry)) at (framesText stereo count voice) (now (out .exit)) (r .next) ⌝ }
     ensures { λ r. ⌜ r .next ≤ at + 96000 ⌝ }
     ensures { λ r. ⌜ Made Valid (framesLast stereo count voice) (r .voice) ⌝ }
 {

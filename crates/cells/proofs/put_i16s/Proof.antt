@@ -1,7 +1,6 @@
 -- `cells::put_i16s` meets its contract: what is left to write is what there was. The measure is the cells left.
 use borrow.Author.Needs.{needs}
-use mathlib.Core.Path.{_≡_}
-use Prim.Native.Nat.{_+_, _-_, _*_, _≤_}
+use Prim.Native.Nat.{_-_, _≤_}
 use native.Mathlib.Omega.{arith}
 use lib.IntN.{pos}
 use lib.ListN.{length, getD}
@@ -14,17 +13,14 @@ use Rattle.cells.proofs.put_i16s.Tie as tie
 
 abbrev Inv-loop : tie.InvT-loop
 Inv-loop out₀ number digits cells next₀ i₀ out next i =
-    (i ≤ length cells) × (next ≡ digits + 4 * i) × Going i16Text cells out₀ next₀ out next i
+    (i ≤ length cells) × Going i16Text cells out₀ next₀ out next i
 
 abbrev μ-loop : tie.MeasureT-loop
 μ-loop out₀ number digits cells next₀ i₀ out next i = length cells - i
 
-put-requires : tie.Need-put-requires Inv-loop μ-loop
-put-requires c κs = omega (arith, c .before .pre)
-
 loop-holds : tie.Need-loop-holds Inv-loop μ-loop
 loop-holds c =
-    (omega arith, omega (arith, c .put .ensures .1), left-start (c .put .last .0) (c .put .result) (cellsText i16Text (c .before .before .args .cells .now)))
+    (omega arith, left-start (c .put .last .0) (c .put .result) (cellsText i16Text (c .before .before .args .cells .now)))
 
 shared-slice-copy-out-unsigned16 : tie.Need-shared-slice-copy-out-unsigned16 Inv-loop μ-loop
 shared-slice-copy-out-unsigned16 c = omega arith
@@ -32,22 +28,16 @@ shared-slice-copy-out-unsigned16 c = omega arith
 cast-put : tie.Need-cast-put Inv-loop μ-loop
 cast-put c = omega (arith, c .unsigned16 .ok)
 
-put-requires-2 : tie.Need-put-requires-2 Inv-loop μ-loop
-put-requires-2 c κs = let s = c .before .before .before .before in omega (arith, s .before .before .before .pre, s .loop .inv .1)
-
 loop-again : tie.Need-loop-again Inv-loop μ-loop
 loop-again c =
     let s = c .before .before .before .before .before in
-    (omega arith, omega (arith, c .put2 .ensures .1, s .loop .inv .1), going-turn i16Text (s .before .before .before .args .cells .now) (s .loop .i) (pos 0) (omega arith) (s .loop .inv .2) (bits-shown 4 w16 (getD (s .before .before .before .args .cells .now) (s .loop .i) (pos 0)) (c .before .before .unsigned16-arg .given) (c .before .unsigned16 .ensures) (c .put2 .ensures .0)))
-
-end-line-requires : tie.Need-end-line-requires Inv-loop μ-loop
-end-line-requires c κs = let s = c .before .before in omega (arith, s .before .before .before .pre, s .loop .inv .1)
+    (omega arith, going-turn i16Text (s .before .before .before .args .cells .now) (s .loop .i) (pos 0) (omega arith) (s .loop .inv .1) (bits-shown 4 w16 (getD (s .before .before .before .args .cells .now) (s .loop .i) (pos 0)) (c .before .before .unsigned16-arg .given) (c .before .unsigned16 .ensures) (c .put2 .ensures .0)))
 
 returns : tie.Need-returns Inv-loop μ-loop
 returns c =
     let t = c .before .before in
     let s = t .before in
-    going-end i16Text (s .before .before .before .args .cells .now) (s .loop .i) (t .loop-test .left) (omega (arith, s .before .before .before .pre, s .loop .inv .1)) (s .before .put .ensures .0) (s .loop .inv .2) (c .end-line .ensures)
+    going-end i16Text (s .before .before .before .args .cells .now) (s .loop .i) (t .loop-test .left) (s .before .put .ensures .0) (s .loop .inv .1) (c .end-line .ensures .0)
 
 pub put-i16s-spec : {M : Type 1} → statement M
 put-i16s-spec =
@@ -55,15 +45,15 @@ put-i16s-spec =
     (tie.spec
     Inv-loop
     μ-loop
-    put-requires
+    (λ c κs. tt)
     loop-holds
     (λ c. omega arith)
     shared-slice-copy-out-unsigned16
     (λ c κs. search needs)
     cast-put
-    put-requires-2
+    (λ c κs. tt)
     (λ c. omega arith)
     (λ c. omega arith)
     loop-again
-    end-line-requires
+    (λ c κs. tt)
     returns)

@@ -1,6 +1,5 @@
 -- `cells::put_u8s` meets its contract: what is left to write is what there was. The measure is the cells left.
-use mathlib.Core.Path.{_≡_}
-use Prim.Native.Nat.{_+_, _-_, _*_, _≤_}
+use Prim.Native.Nat.{_-_, _≤_}
 use native.Mathlib.Omega.{arith}
 use lib.ListN.{length}
 use Rattle.hex.proofs.Texts.{left-start}
@@ -11,17 +10,14 @@ use Rattle.cells.proofs.put_u8s.Tie as tie
 
 abbrev Inv-loop : tie.InvT-loop
 Inv-loop out₀ number digits cells next₀ i₀ out next i =
-    (i ≤ length cells) × (next ≡ digits + 2 * i) × Going byteText cells out₀ next₀ out next i
+    (i ≤ length cells) × Going byteText cells out₀ next₀ out next i
 
 abbrev μ-loop : tie.MeasureT-loop
 μ-loop out₀ number digits cells next₀ i₀ out next i = length cells - i
 
-put-requires : tie.Need-put-requires Inv-loop μ-loop
-put-requires c κs = omega (arith, c .before .before .pre)
-
 loop-holds : tie.Need-loop-holds Inv-loop μ-loop
 loop-holds c =
-    (omega arith, omega (arith, c .put .ensures .1), left-start (c .put .last .0) (c .put .result) (cellsText byteText (c .before .before .before .args .cells .now)))
+    (omega arith, left-start (c .put .last .0) (c .put .result) (cellsText byteText (c .before .before .before .args .cells .now)))
 
 shared-slice-read-put : tie.Need-shared-slice-read-put Inv-loop μ-loop
 shared-slice-read-put c = omega arith
@@ -29,22 +25,16 @@ shared-slice-read-put c = omega arith
 cast-put : tie.Need-cast-put Inv-loop μ-loop
 cast-put c = omega (arith, c .shared-slice-known2 .given (c .before .before .before .loop .i))
 
-put-requires-2 : tie.Need-put-requires-2 Inv-loop μ-loop
-put-requires-2 c κs = let s = c .before .before .before in omega (arith, s .before .before .before .before .pre, s .loop .inv .1)
-
 loop-again : tie.Need-loop-again Inv-loop μ-loop
 loop-again c =
     let s = c .before .before .before .before in
-    (omega arith, omega (arith, c .put2 .ensures .1, s .loop .inv .1), going-turn byteText (s .before .before .before .before .args .cells .now) (s .loop .i) 0 (omega arith) (s .loop .inv .2) (c .put2 .ensures .0))
-
-end-line-requires : tie.Need-end-line-requires Inv-loop μ-loop
-end-line-requires c κs = let s = c .before .before in omega (arith, s .before .before .before .before .pre, s .loop .inv .1)
+    (omega arith, going-turn byteText (s .before .before .before .before .args .cells .now) (s .loop .i) 0 (omega arith) (s .loop .inv .1) (c .put2 .ensures .0))
 
 returns : tie.Need-returns Inv-loop μ-loop
 returns c =
     let t = c .before .before in
     let s = t .before in
-    going-end byteText (s .before .before .before .before .args .cells .now) (s .loop .i) (t .loop-test .left) (omega (arith, s .before .before .before .before .pre, s .loop .inv .1)) (s .before .put .ensures .0) (s .loop .inv .2) (c .end-line .ensures)
+    going-end byteText (s .before .before .before .before .args .cells .now) (s .loop .i) (t .loop-test .left) (s .before .put .ensures .0) (s .loop .inv .1) (c .end-line .ensures .0)
 
 pub put-u8s-spec : {M : Type 1} → statement M
 put-u8s-spec =
@@ -52,13 +42,13 @@ put-u8s-spec =
     (tie.spec
     Inv-loop
     μ-loop
-    put-requires
+    (λ c κs. tt)
     loop-holds
     shared-slice-read-put
     cast-put
-    put-requires-2
+    (λ c κs. tt)
     (λ c. omega arith)
     (λ c. omega arith)
     loop-again
-    end-line-requires
+    (λ c κs. tt)
     returns)

@@ -9,9 +9,6 @@ use Rattle.hex.proofs.Texts.{shown-four, then}
 use Rattle.dump.proofs.put_running.Statement.{statement}
 use Rattle.dump.proofs.put_running.Tie as tie
 
-put-four-requires-2 : tie.Need-put-four-requires-2
-put-four-requires-2 c κs = let p = c .before .before .before .before in omega (arith, p .put-four .ensures .1, c .before .before .before .before .before .before .before .before .before .before .before .before .before .before .before .before .before .before .pre)
-
 returns : tie.Need-returns
 returns c =
     let p = c .before .before .before .before .before in
@@ -44,5 +41,5 @@ put-running-spec =
     (λ c. search needs)
     (λ c. search needs)
     (λ c κs. search needs)
-    put-four-requires-2
+    (λ c κs. tt)
     returns)

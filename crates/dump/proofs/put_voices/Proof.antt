@@ -23,28 +23,21 @@ loop-holds : tie.Need-loop-holds Inv-loop μ-loop
 loop-holds c = (omega arith, omega arith, left-start (c .args .out .now) (c .args .at) (voiceLines (take (c .args .t3 .n) (c .args .t3 .voices))))
 
 mul-v : tie.Need-mul-v Inv-loop μ-loop
-mul-v c = omega (arith, c .before .before .pre .0 .few)
+mul-v c = omega (arith, c .before .before .pre .few)
 
 element-copy-out-v : tie.Need-element-copy-out-v Inv-loop μ-loop
-element-copy-out-v c = omega (arith, c .before .before .pre .0 .few)
+element-copy-out-v c = omega (arith, c .before .before .pre .few)
 
 put-voice-requires : tie.Need-put-voice-requires Inv-loop μ-loop
 put-voice-requires c κs =
     let s = c .before .before .before in
-    let v = s .before .pre .0 in
+    let v = s .before .pre in
     let h : s .loop .i < 16 = omega (arith, v .few) in
     let k : s .loop .i < length (s .before .args .t3 .voices) = omega (arith, v .full) in
-    (omega (arith, s .loop .inv .1, s .before .pre .1), all-get S.Valid (s .before .args .t3 .voices) (s .loop .i) _ (v .each) k)
-
-end-line-requires : tie.Need-end-line-requires Inv-loop μ-loop
-end-line-requires c κs =
-    let p = c .before in
-    let s = p .before .before .before .before in
-    let h : s .loop .i < 16 = omega (arith, s .before .pre .0 .few) in
-    omega (arith, p .put-voice .ensures .1, s .loop .inv .1, s .before .pre .1)
+    all-get S.Valid (s .before .args .t3 .voices) (s .loop .i) _ (v .each) k
 
 add-i : tie.Need-add-i Inv-loop μ-loop
-add-i c = let s = c .before .before .before .before .before .before in omega (arith, s .before .pre .0 .few)
+add-i c = let s = c .before .before .before .before .before .before in omega (arith, s .before .pre .few)
 
 loop-less : tie.Need-loop-less Inv-loop μ-loop
 loop-less c = omega arith
@@ -55,9 +48,9 @@ loop-again c =
     let s = p .before .before .before .before in
     let m = s .before .args .t3 in
     let h : s .loop .i < m .n = omega arith in
-    let k : m .n ≤ length (m .voices) = omega (arith, s .before .pre .0 .few, s .before .pre .0 .full) in
-    let w = then (p .put-voice .ensures .0) (c .end-line .ensures) in
-    (omega arith, omega (arith, c .end-line .ensures .place, p .put-voice .ensures .1, s .loop .inv .1), lines-turn (m .n) (s .loop .i) (m .voices) _ h k (s .loop .inv .2) w)
+    let k : m .n ≤ length (m .voices) = omega (arith, s .before .pre .few, s .before .pre .full) in
+    let w = then (p .put-voice .ensures .0) (c .end-line .ensures .0) in
+    (omega arith, omega (arith, c .end-line .ensures .1, p .put-voice .ensures .1, s .loop .inv .1), lines-turn (m .n) (s .loop .i) (m .voices) _ h k (s .loop .inv .2) w)
 
 returns : tie.Need-returns Inv-loop μ-loop
 returns c =
@@ -65,7 +58,7 @@ returns c =
     let m = s .before .args .t3 in
     let h : s .loop .i ≡ m .n = omega arith in
     let e : voiceLines (drop (s .loop .i) (take (m .n) (m .voices))) ≡ [] = rw h (lines-end (m .n) (m .voices)) in
-    left-end (omega (arith, s .loop .inv .1, s .before .pre .0 .few, s .before .pre .1)) (rw e at (s .loop .inv .2))
+    (left-end (rw e at (s .loop .inv .2)), omega (arith, s .loop .inv .1, s .before .pre .few))
 
 pub put-voices-spec : {M : Type 1} → statement M
 put-voices-spec =
@@ -77,7 +70,7 @@ put-voices-spec =
     mul-v
     element-copy-out-v
     put-voice-requires
-    end-line-requires
+    (λ c κs. tt)
     add-i
     loop-less
     loop-again

@@ -6,13 +6,6 @@ use Rattle.hex.proofs.Texts.{then}
 use Rattle.fields.proofs.put_adsr.Statement.{statement}
 use Rattle.fields.proofs.put_adsr.Tie as tie
 
-put-requires : tie.Need-put-requires
-put-requires c κs =
-    let b1 = c .before .before in
-    let b2 = b1 .before .before .before .before .before .before in
-    let b3 = b2 .before .before .before .before .before .before .before in
-    omega (arith, b1 .put-four2 .ensures .1, b2 .put-four .ensures .1, b3 .pre)
-
 returns : tie.Need-returns
 returns c =
     let b1 = c .before .before .before in
@@ -35,5 +28,5 @@ put-adsr-spec =
     (λ c. search needs)
     (λ c κs. search needs)
     (λ c. search needs)
-    put-requires
+    (λ c κs. tt)
     returns)

@@ -11,13 +11,13 @@ bits-of-requires : tie.Need-bits-of-requires
 bits-of-requires c κs =
     let b1 = c .before in
     let b2 = b1 .before in
-    rw (c .phase .ensures, b1 .oscillator .ensures) (phase-some _ (b2 .pre .1 .osc .phase))
+    rw (c .phase .ensures, b1 .oscillator .ensures) (phase-some _ (b2 .pre .osc .phase))
 
 bits-of-requires-2 : tie.Need-bits-of-requires-2
 bits-of-requires-2 c κs =
     let b1 = c .before .before .before in
     let b2 = b1 .before in
-    rw (c .phase-inc .ensures, b1 .oscillator .ensures) (step-some _ (b2 .pre .1 .osc .step))
+    rw (c .phase-inc .ensures, b1 .oscillator .ensures) (step-some _ (b2 .pre .osc .step))
 
 returns : tie.Need-returns
 returns c =

@@ -8,7 +8,7 @@ put-polyblep-requires : tie.Need-put-polyblep-requires
 put-polyblep-requires c κs =
     let b1 = c .before .before in
     let b2 = b1 .before .before in
-    (b2 .pre .0, rw (b1 .s2 .given .1) at (b2 .pre .1))
+    rw (b1 .s2 .given .1) at (b2 .pre)
 
 returns : tie.Need-returns
 returns c =

@@ -8,20 +8,7 @@ use Rattle.fields.proofs.put_voice.Tie as tie
 put-source-requires : tie.Need-put-source-requires
 put-source-requires c κs =
     let b1 = c .before .before .before .before .before .before in
-    (omega arith, b1 .pre .1 .source)
-
-put-adsr-requires : tie.Need-put-adsr-requires
-put-adsr-requires c κs =
-    let b1 = c .before in
-    let b2 = b1 .before .before .before .before .before .before .before in
-    omega (arith, b1 .put-source .ensures .1, b2 .pre .0)
-
-put-four-requires : tie.Need-put-four-requires
-put-four-requires c κs =
-    let b1 = c .before in
-    let b2 = b1 .before .before in
-    let b3 = b2 .before .before .before .before .before .before .before in
-    omega (arith, b1 .put-adsr .ensures .1, b2 .put-source .ensures .1, b3 .pre .0)
+    b1 .pre .source
 
 returns : tie.Need-returns
 returns c =
@@ -38,6 +25,6 @@ put-voice-spec =
     (λ c. search needs)
     (λ c. search needs)
     put-source-requires
-    put-adsr-requires
-    put-four-requires
+    (λ c κs. tt)
+    (λ c κs. tt)
     returns)

@@ -1,6 +1,6 @@
 -- `script::runs::map_all` meets its contract: what is left of the run, from each turn on, is the run. The measure is the samples left.
 use mathlib.Core.Path.{_≡_, refl, sym, ap, _∙_}
-use Prim.Native.Nat.{ℕ, _+_, _*_}
+use Prim.Native.Nat.{ℕ, _+_, _*_, _≤_}
 use native.Mathlib.Omega.{arith}
 use mir.Syntax.{w8}
 use Rattle.output.specs.Duty.{ValidMapped, mapped}
@@ -8,14 +8,13 @@ use Rattle.output.specs.declared.Mapped.{Mapped}
 use Rattle.script.specs.Replies.{sampleAt}
 use Rattle.script.specs.Runs.{mapStep, dutyText}
 use Rattle.hex.proofs.Bits.{back}
-use Rattle.hex.proofs.Texts.{length-hexOf}
 use Rattle.script.proofs.Going.{Going, going-start, going-turn, going-end, stepped-none}
 use Rattle.script.proofs.runs.map_all.Statement.{statement}
 use Rattle.script.proofs.runs.map_all.Tie as tie
 
 abbrev Inv-loop : tie.InvT-loop
 Inv-loop out₀ l period count last₀ next₀ k₀ left₀ out last next k left =
-    Going (mapStep l (period .counts)) dutyText out₀ 3 count (8, last₀) out next left (k, last) × ValidMapped last × (next + 4 * left ≡ 3 + 4 * count) × (k + left ≡ 8 + count)
+    Going (mapStep l (period .counts)) dutyText out₀ 3 count (8, last₀) out next left (k, last) × ValidMapped last × (next + 4 * left ≤ 3 + 4 * count) × (k + left ≡ 8 + count)
 
 abbrev μ-loop : tie.MeasureT-loop
 μ-loop out₀ l period count last₀ next₀ k₀ left₀ out last next k left = left
@@ -36,7 +35,7 @@ returns c =
     let a = c .before .before .before .args in
     let z = c .loop-test .left in
     let step = mapStep (a .l .now) (a .period .counts) in
-    (going-end step dutyText 4 (λ s. length-hexOf 4 (s .1 .duty)) z (h .inv .2) (omega arith) (h .inv .0), (omega arith, record { same = ap (λ (s : ℕ × Mapped). s .1) (sym (stepped-none step (h .left) (h .k, h .last) z) ∙ h .inv .0 .same); valid = h .inv .1 }))
+    (going-end step dutyText z (h .inv .0), (omega arith, record { same = ap (λ (s : ℕ × Mapped). s .1) (sym (stepped-none step (h .left) (h .k, h .last) z) ∙ h .inv .0 .same); valid = h .inv .1 }))
 
 pub map-all-spec : {M : Type 1} → statement M
 map-all-spec =
@@ -44,7 +43,7 @@ map-all-spec =
     (tie.spec
     Inv-loop
     μ-loop
-    (λ c. let a = c .before .args in (going-start (mapStep (a .l .now) (a .period .counts)) dutyText _ _ _ _, c .before .pre .1, refl, refl))
+    (λ c. let a = c .before .args in (going-start (mapStep (a .l .now) (a .period .counts)) dutyText _ _ _ _, c .before .pre .1, omega arith, refl))
     (λ c κs. omega arith)
     (λ c κs. tt)
     (λ c κs. let t = c .before .before .before .before in (t .loop .inv .1, t .before .before .pre .0))

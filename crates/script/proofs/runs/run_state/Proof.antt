@@ -2,15 +2,9 @@
 use borrow.Author.Needs.{needs}
 use native.Mathlib.Omega.{arith}
 use mathlib.Core.Path.{sym}
-use Rattle.hex.proofs.Texts.{then}
+use Rattle.hex.proofs.Texts.{then, part, whole}
 use Rattle.script.proofs.runs.run_state.Statement.{statement}
 use Rattle.script.proofs.runs.run_state.Tie as tie
-
-end-line-requires : tie.Need-end-line-requires
-end-line-requires c κs =
-    let b1 = c .before in
-    let b2 = b1 .before .before .before .before .before .before .before .before .before in
-    omega (arith, b1 .put-adsr .ensures .1, b2 .put-line .ensures .1)
 
 returns : tie.Need-returns
 returns c =
@@ -24,7 +18,8 @@ returns c =
     let b8 = b7 .before in
     let b9 = b8 .before in
     rw (sym (b4 .wide-at2 .ensures), sym (b7 .wide-at .ensures), sym (b8 .trigger .ensures .same), sym (b6 .ticked-by .ensures .same), sym (b5 .release .ensures .same), sym (b3 .ticked-by2 .ensures .same), sym (b2 .state .ensures))
-    (then (then (b9 .put-line .ensures .0) (b1 .put-adsr .ensures .0)) (c .end-line .ensures))
+    (whole (then (then (part (b9 .put-line .ensures .0)) (b1 .put-adsr .ensures .0)) (c .end-line .ensures .0))
+    (omega (arith, b9 .put-line .ensures .1, b1 .put-adsr .ensures .1, c .end-line .ensures .1)))
 
 pub run-state-spec : {M : Type 1} → statement M
 run-state-spec =
@@ -39,5 +34,5 @@ run-state-spec =
     (λ c κs. search needs)
     (λ c κs. search needs)
     (λ c κs. search needs)
-    end-line-requires
+    (λ c κs. tt)
     returns)

@@ -1,23 +1,23 @@
 -- `script::sounds::requests` meets its contract: what is left of the run, from each turn on, is the run. The measure is the requests left.
 use native.Mathlib.Omega.{arith}
 use mathlib.Core.Path.{sym, _∙_, refl, _≡_}
-use Prim.Native.Nat.{_+_, _*_}
-use Rattle.hex.proofs.Texts.{shown, length-hexOf}
+use Prim.Native.Nat.{_+_, _*_, _≤_}
+use Rattle.hex.proofs.Texts.{shown}
 use Rattle.script.proofs.Going.{Going, going-start, going-turn, going-end, stepped-none}
 use Rattle.voice.specs.Sources.{ValidStep}
-use Rattle.script.specs.Sounds.{request, givenNumber, givenText}
+use Rattle.script.specs.Sounds.{request, givenText}
 use Rattle.script.proofs.sounds.requests.Statement.{statement}
 use Rattle.script.proofs.sounds.requests.Tie as tie
 
 abbrev Inv-loop : tie.InvT-loop
 Inv-loop out₀ at count last₀ next₀ left₀ out last next left =
-    Going request givenText out₀ at count last₀ out next left last × ValidStep last × (next + 4 * left ≡ at + 4 * count)
+    Going request givenText out₀ at count last₀ out next left last × ValidStep last × (next + 4 * left ≤ at + 4 * count)
 
 abbrev μ-loop : tie.MeasureT-loop
 μ-loop out₀ at count last₀ next₀ left₀ out last next left = left
 
 loop-holds : tie.Need-loop-holds Inv-loop μ-loop
-loop-holds c = (going-start request givenText _ _ _ _, c .pre .0, refl)
+loop-holds c = (going-start request givenText _ _ _ _, c .pre, omega arith)
 
 next-raw-sample-requires : tie.Need-next-raw-sample-requires Inv-loop μ-loop
 next-raw-sample-requires c κs =
@@ -28,7 +28,7 @@ given-number-requires : tie.Need-given-number-requires Inv-loop μ-loop
 given-number-requires c κs = tt
 
 put-requires : tie.Need-put-requires Inv-loop μ-loop
-put-requires c κs = omega arith
+put-requires c κs = tt
 
 sub-left : tie.Need-sub-left Inv-loop μ-loop
 sub-left c = omega arith
@@ -47,7 +47,7 @@ loop-again c =
 returns : tie.Need-returns Inv-loop μ-loop
 returns c =
     let b1 = c .before in
-    (going-end request givenText 4 (λ s. length-hexOf 4 (givenNumber (s .given))) (c .loop-test .left) (b1 .loop .inv .2) (omega arith) (b1 .loop .inv .0), (omega arith, record { same = sym (stepped-none request (b1 .loop .left) (b1 .loop .last) (c .loop-test .left)) ∙ b1 .loop .inv .0 .same; valid = b1 .loop .inv .1 }))
+    (going-end request givenText (c .loop-test .left) (b1 .loop .inv .0), (omega arith, record { same = sym (stepped-none request (b1 .loop .left) (b1 .loop .last) (c .loop-test .left)) ∙ b1 .loop .inv .0 .same; valid = b1 .loop .inv .1 }))
 
 pub requests-spec : {M : Type 1} → statement M
 requests-spec =

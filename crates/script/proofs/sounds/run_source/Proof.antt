@@ -1,7 +1,8 @@
 -- `script::sounds::run_source` meets its contract: five texts, one after the other, of the source that the requests before left.
 use borrow.Author.Needs.{needs}
 use mathlib.Core.Path.{sym}
-use Rattle.hex.proofs.Texts.{then}
+use native.Mathlib.Omega.{arith}
+use Rattle.hex.proofs.Texts.{then, part, whole}
 use Rattle.script.proofs.sounds.run_source.Statement.{statement}
 use Rattle.script.proofs.sounds.run_source.Tie as tie
 
@@ -19,7 +20,8 @@ returns c =
     let b10 = b9 .before in
     let b11 = b10 .before in
     rw (sym (b9 .three-at .ensures), sym (b10 .source-at .ensures .same), sym (b8 .skipped .ensures .same), sym (b7 .printed-at .ensures .0), sym (b6 .requests .ensures .1 .1 .same), sym (b4 .long-at .ensures), sym (b3 .carrier-hz .ensures), sym (b2 .carrier-number .ensures))
-    (then (then (then (then (b11 .put-line .ensures .0) (b6 .requests .ensures .0)) (b5 .put-source .ensures .0)) (b1 .put .ensures .0)) (c .end-line .ensures))
+    (whole (then (then (then (then (part (b11 .put-line .ensures .0)) (b6 .requests .ensures .0)) (b5 .put-source .ensures .0)) (b1 .put .ensures .0)) (c .end-line .ensures .0))
+    (omega (arith, b11 .put-line .ensures .1, b7 .printed-at .ensures .1, b6 .requests .ensures .1 .0, b5 .put-source .ensures .1, b1 .put .ensures .1, c .end-line .ensures .1)))
 
 pub run-source-spec : {M : Type 1} → statement M
 run-source-spec =

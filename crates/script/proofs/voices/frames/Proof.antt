@@ -1,25 +1,24 @@
 -- `script::voices::frames` meets its contract: what is left of the run, from each turn on, is the run. The measure is the frames left.
 use native.Mathlib.Omega.{arith}
 use mathlib.Core.Path.{sym, ap, _∙_, refl, _≡_}
-use Prim.Native.Nat.{_+_, _*_}
-use Rattle.hex.proofs.Texts.{shown, length-hexOf}
+use Prim.Native.Nat.{_+_, _*_, _≤_}
+use Rattle.hex.proofs.Texts.{shown}
 use Rattle.script.proofs.Going.{Going, going-start, going-turn, going-end, stepped-none}
 use Rattle.voice.specs.Voices.{ValidVoiceStep, steppedVoice}
 use Rattle.voice.specs.declared.VoiceStep.{VoiceStep}
-use Rattle.script.specs.Sounds.{givenNumber}
 use Rattle.script.specs.Voices.{monoFrame, frameText}
 use Rattle.script.proofs.voices.frames.Statement.{statement}
 use Rattle.script.proofs.voices.frames.Tie as tie
 
 abbrev Inv-loop : tie.InvT-loop
 Inv-loop out₀ at count last₀ next₀ left₀ out last next left =
-    Going monoFrame frameText out₀ at count last₀ out next left last × ValidVoiceStep last × (next + 4 * left ≡ at + 4 * count)
+    Going monoFrame frameText out₀ at count last₀ out next left last × ValidVoiceStep last × (next + 4 * left ≤ at + 4 * count)
 
 abbrev μ-loop : tie.MeasureT-loop
 μ-loop out₀ at count last₀ next₀ left₀ out last next left = left
 
 loop-holds : tie.Need-loop-holds Inv-loop μ-loop
-loop-holds c = (going-start monoFrame frameText _ _ _ _, c .pre .0, refl)
+loop-holds c = (going-start monoFrame frameText _ _ _ _, c .pre, omega arith)
 
 tick-envelope-requires : tie.Need-tick-envelope-requires Inv-loop μ-loop
 tick-envelope-requires c κs =
@@ -33,7 +32,7 @@ given-number-requires : tie.Need-given-number-requires Inv-loop μ-loop
 given-number-requires c κs = tt
 
 put-requires : tie.Need-put-requires Inv-loop μ-loop
-put-requires c κs = omega arith
+put-requires c κs = tt
 
 sub-left : tie.Need-sub-left Inv-loop μ-loop
 sub-left c = omega arith
@@ -56,7 +55,7 @@ returns c =
     let b1 = c .before in
     let b2 = b1 .before in
     let e = sym (stepped-none monoFrame (b2 .loop .left) (b2 .loop .last) (b1 .loop-test .left)) ∙ b2 .loop .inv .0 .same in
-    (going-end monoFrame frameText 4 (λ s. length-hexOf 4 (givenNumber (s .given))) (b1 .loop-test .left) (b2 .loop .inv .2) (omega arith) (b2 .loop .inv .0), (omega arith, record { same = ap (λ (s : VoiceStep). s .voice) e; valid = b2 .loop .inv .1 }))
+    (going-end monoFrame frameText (b1 .loop-test .left) (b2 .loop .inv .0), (omega arith, record { same = ap (λ (s : VoiceStep). s .voice) e; valid = b2 .loop .inv .1 }))
 
 pub frames-spec : {M : Type 1} → statement M
 frames-spec =

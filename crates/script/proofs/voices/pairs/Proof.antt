@@ -1,29 +1,23 @@
 -- `script::voices::pairs` meets its contract: what is left of the run, from each turn on, is the run. The measure is the frames left.
 use native.Mathlib.Omega.{arith}
 use mathlib.Core.Path.{sym, ap, _∙_, refl, _≡_}
-use Prim.Native.Nat.{_+_, _*_}
-use lib.ListN.{length, length-append}
-use Rattle.hex.proofs.Texts.{length-hexOf}
+use Prim.Native.Nat.{_+_, _*_, _≤_}
 use Rattle.script.proofs.Going.{Going, going-start, going-turn, going-end, stepped-none}
 use Rattle.voice.specs.Voices.{ValidStereoStep, stereoStep}
-use Rattle.voice.specs.declared.StereoGiven.{StereoGiven}
 use Rattle.voice.specs.declared.StereoStep.{StereoStep}
-use Rattle.script.specs.Voices.{stereoFrame, leftNumber, rightNumber, pairOf, pairText}
+use Rattle.script.specs.Voices.{stereoFrame, pairText}
 use Rattle.script.proofs.voices.pairs.Statement.{statement}
 use Rattle.script.proofs.voices.pairs.Tie as tie
 
-length-pair : (g : StereoGiven) → length (pairOf g) ≡ 6
-length-pair g = rw (length-append, length-hexOf 4 (leftNumber g), length-hexOf 2 (rightNumber g))
-
 abbrev Inv-loop : tie.InvT-loop
 Inv-loop out₀ at count last₀ next₀ left₀ out last next left =
-    Going stereoFrame pairText out₀ at count last₀ out next left last × ValidStereoStep last × (next + 6 * left ≡ at + 6 * count)
+    Going stereoFrame pairText out₀ at count last₀ out next left last × ValidStereoStep last × (next + 6 * left ≤ at + 6 * count)
 
 abbrev μ-loop : tie.MeasureT-loop
 μ-loop out₀ at count last₀ next₀ left₀ out last next left = left
 
 loop-holds : tie.Need-loop-holds Inv-loop μ-loop
-loop-holds c = (going-start stereoFrame pairText _ _ _ _, c .pre .0, refl)
+loop-holds c = (going-start stereoFrame pairText _ _ _ _, c .pre, omega arith)
 
 tick-envelope-requires : tie.Need-tick-envelope-requires Inv-loop μ-loop
 tick-envelope-requires c κs =
@@ -34,7 +28,7 @@ next-stereo-sample-requires : tie.Need-next-stereo-sample-requires Inv-loop μ-l
 next-stereo-sample-requires c κs = c .tick-envelope .ensures .valid
 
 put-pair-requires : tie.Need-put-pair-requires Inv-loop μ-loop
-put-pair-requires c κs = omega arith
+put-pair-requires c κs = tt
 
 sub-left : tie.Need-sub-left Inv-loop μ-loop
 sub-left c = omega arith
@@ -56,7 +50,7 @@ returns c =
     let b1 = c .before in
     let b2 = b1 .before in
     let e = sym (stepped-none stereoFrame (b2 .loop .left) (b2 .loop .last) (b1 .loop-test .left)) ∙ b2 .loop .inv .0 .same in
-    (going-end stereoFrame pairText 6 (λ s. length-pair (s .given)) (b1 .loop-test .left) (b2 .loop .inv .2) (omega arith) (b2 .loop .inv .0), (omega arith, record { same = ap (λ (s : StereoStep). s .voice) e; valid = b2 .loop .inv .1 }))
+    (going-end stereoFrame pairText (b1 .loop-test .left) (b2 .loop .inv .0), (omega arith, record { same = ap (λ (s : StereoStep). s .voice) e; valid = b2 .loop .inv .1 }))
 
 pub pairs-spec : {M : Type 1} → statement M
 pairs-spec =

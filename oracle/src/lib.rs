@@ -3,8 +3,7 @@
 //!
 //! Comparing state needs private fields. A module whose state is compared takes its upstream file in by `include!`: what
 //! stands beside the `include!` belongs to the same module and sees them. `include!` refuses a file that begins with `//!`,
-//! which of these is only `polyblep.rs`; its fields are read from its derived `Debug` text (see `synth.rs`). Every other
-//! file comes in by `#[path]`.
+//! which of these is only `polyblep.rs`; `build.rs` hands it on without those lines. Every other file comes in by `#[path]`.
 
 #![cfg_attr(not(feature = "std"), no_std)]
 

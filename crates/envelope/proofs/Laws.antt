@@ -11,37 +11,33 @@ use Rattle.envelope.specs.declared.AdsrSpec.{AdsrSpec}
 use Rattle.envelope.specs.declared.Adsr.{Adsr}
 use Rattle.envelope.specs.declared.AdsrPhase.{AdsrPhase}
 use Rattle.envelope.specs.declared.AdsrPhase.the-variants as P
-use Rattle.laws.specs.Durations.{samplesOf}
-use Rattle.envelope.specs.Adsrs.{Valid, Counting, Times, idleAdsr, inPhase, attackLength, decayLength, releaseLength, beganDecay, beganRelease, triggered, released, advancedToward, orAtEnd, ticked, tickedIn, active, activeIn, running}
+use Rattle.envelope.specs.Adsrs.{Valid, idleAdsr, inPhase, attackLength, decayLength, releaseLength, beganDecay, beganRelease, triggered, released, advancedToward, orAtEnd, ticked, tickedIn, active, activeIn, running}
 
 -- ---- 65,535 × 65,537 = 2^32 − 1
 pub product-fits : {ms rate : ℕ} → ms ≤ 65535 → rate ≤ 65537 → ms * rate ≤ 4294967295
 product-fits {ms} {rate} h k = le-trans (mul-le-mul-right rate h) (mul-le-mul-left 65535 k)
 
-pub samples≤ : {ms rate : ℕ} → ms ≤ 65535 → rate ≤ 65537 → samplesOf ms rate ≤ 4294967
-samples≤ h k = omega (arith, product-fits h k)
+first : {n : ℕ} → (n ≡ 0 → ⊥) → 0 < n
+first d = omega arith
 
-first : {n : ℕ} → (n ≡ 0 → ⊥) → n ≤ 4294967 → Counting 0 n
-first d h = record { below = omega arith; short = h }
+pub valid-idle : {spec : AdsrSpec} {rate : ℕ} → rate ≤ 65537 → Valid (idleAdsr spec rate)
+valid-idle h = record { rate = h; counts = λ e. never e }
 
-pub valid-idle : {spec : AdsrSpec} {rate : ℕ} → rate ≤ 65537 → Times spec → Valid (idleAdsr spec rate)
-valid-idle h t = record { rate = h; times = t; counts = λ e. never e }
-
-module _ (a : Adsr) (h : a .«sample_rate_hz» ≤ 65537) (t : Times (a .spec)) where
+module _ (a : Adsr) (h : a .«sample_rate_hz» ≤ 65537) where
   -- a phase of length n begins, or is passed over at length 0
-  begun : (n : ℕ) (p q : AdsrPhase) (l m : ℕ) → running q ≡ false → n ≤ 4294967 → Valid (cond (eqb n 0) (inPhase a q m 0 0) (inPhase a p l 0 n))
-  begun n p q l m r k = by-test (eqb n 0) refl
+  begun : (n : ℕ) (p q : AdsrPhase) (l m : ℕ) → running q ≡ false → Valid (cond (eqb n 0) (inPhase a q m 0 0) (inPhase a p l 0 n))
+  begun n p q l m r = by-test (eqb n 0) refl
     where
       by-test : (b : Bool) → eqb n 0 ≡ b → Valid (cond b (inPhase a q m 0 0) (inPhase a p l 0 n))
-      by-test true e = record { rate = h; times = t; counts = λ i. never (sym r ∙ i) }
-      by-test false e = record { rate = h; times = t; counts = λ i. first (eqb-false n 0 e) k }
+      by-test true e = record { rate = h; counts = λ i. never (sym r ∙ i) }
+      by-test false e = record { rate = h; counts = λ i. first (eqb-false n 0 e) }
 
   pub valid-beganDecay : Valid (beganDecay a)
   unfolding beganDecay
-  valid-beganDecay = begun (decayLength a) P.Decay P.Sustain _ _ refl (samples≤ (t .decay) h)
+  valid-beganDecay = begun (decayLength a) P.Decay P.Sustain _ _ refl
 
   valid-beganRelease : Valid (beganRelease a)
-  valid-beganRelease = begun (releaseLength a) P.Release P.Idle _ _ refl (samples≤ (t .release) h)
+  valid-beganRelease = begun (releaseLength a) P.Release P.Idle _ _ refl
 
 pub valid-triggered : {a : Adsr} → Valid a → Valid (triggered a)
 unfolding triggered
@@ -51,8 +47,8 @@ valid-triggered {a} h = by-test (eqb (attackLength a) 0) refl
     b = inPhase a P.Attack 0 0 (attackLength a)
 
     by-test : (t : Bool) → eqb (attackLength a) 0 ≡ t → Valid (cond t (beganDecay b) b)
-    by-test true e = valid-beganDecay b (h .rate) (h .times)
-    by-test false e = record { rate = h .rate; times = h .times; counts = λ i. first (eqb-false _ 0 e) (samples≤ (h .times .attack) (h .rate)) }
+    by-test true e = valid-beganDecay b (h .rate)
+    by-test false e = record { rate = h .rate; counts = λ i. first (eqb-false _ 0 e) }
 
 -- a triggered envelope is not idle, whatever its lengths
 pub triggered-active : (a : Adsr) → active (triggered a) ≡ true
@@ -76,7 +72,7 @@ unfolding released
 valid-released {a} h = by-test (active a)
   where
     by-test : (b : Bool) → Valid (cond b (beganRelease a) a)
-    by-test true = valid-beganRelease a (h .rate) (h .times)
+    by-test true = valid-beganRelease a (h .rate)
     by-test false = h
 
 -- the count goes on, or the phase ends
@@ -90,26 +86,22 @@ valid-orAtEnd b after f h = by-test (ltb (b .«samples_in_phase») (b .«phase_l
 valid-advanced : (t : ℕ) (a : Adsr) → running (a .phase) ≡ true → Valid a → a .«samples_in_phase» + 1 < a .«phase_length_samples» → Valid (advancedToward t a)
 unfolding advancedToward
 valid-advanced t a r h k =
-    record {
-      rate = h .rate;
-      times = h .times;
-      counts = λ i. record { below = k; short = h .counts r .short };
-    }
+    record { rate = h .rate; counts = λ i. k }
 
-stopped : (b : Adsr) (q : AdsrPhase) (l c n : ℕ) → running q ≡ false → b .«sample_rate_hz» ≤ 65537 → Times (b .spec) → Valid (inPhase b q l c n)
-stopped b q l c n r h t = record { rate = h; times = t; counts = λ i. never (sym r ∙ i) }
+stopped : (b : Adsr) (q : AdsrPhase) (l c n : ℕ) → running q ≡ false → b .«sample_rate_hz» ≤ 65537 → Valid (inPhase b q l c n)
+stopped b q l c n r h = record { rate = h; counts = λ i. never (sym r ∙ i) }
 
 valid-tickedIn : (p : AdsrPhase) (a : Adsr) → a .phase ≡ p → Valid a → Valid (tickedIn p a)
 unfolding advancedToward
 valid-tickedIn P.Attack a e h =
     let b = advancedToward 255 a in
-    valid-orAtEnd b (beganDecay b) (valid-advanced 255 a (rw e refl) h) (valid-beganDecay b (h .rate) (h .times))
+    valid-orAtEnd b (beganDecay b) (valid-advanced 255 a (rw e refl) h) (valid-beganDecay b (h .rate))
 valid-tickedIn P.Decay a e h =
     let b = advancedToward (a .spec .«sustain_q8») a in
-    valid-orAtEnd b _ (valid-advanced _ a (rw e refl) h) (stopped b P.Sustain _ _ _ refl (h .rate) (h .times))
+    valid-orAtEnd b _ (valid-advanced _ a (rw e refl) h) (stopped b P.Sustain _ _ _ refl (h .rate))
 valid-tickedIn P.Release a e h =
     let b = advancedToward 0 a in
-    valid-orAtEnd b _ (valid-advanced 0 a (rw e refl) h) (stopped b P.Idle _ _ _ refl (h .rate) (h .times))
+    valid-orAtEnd b _ (valid-advanced 0 a (rw e refl) h) (stopped b P.Idle _ _ _ refl (h .rate))
 valid-tickedIn P.Sustain a e h = h
 valid-tickedIn P.Idle a e h = h
 

@@ -129,19 +129,7 @@ running P.Release = true
 running P.Sustain = false
 running P.Idle = false
 
--- a count within its phase: 65,535 ms at 65,537 Hz are 4,294,967 samples
-pub record Counting (c length : ℕ) : Type 0 where
-  pub below : c < length
-  pub short : length ≤ 4294967
-
--- durations are numbers of 16 bits
-pub record Times (s : AdsrSpec) : Type 0 where
-  pub attack : s .«attack_ms» ≤ 65535
-  pub decay : s .«decay_ms» ≤ 65535
-  pub release : s .«release_ms» ≤ 65535
-
--- what every envelope that a call takes or gives has
+-- what every envelope that a call takes or gives has; in a phase that counts, "c = length" has not been reached
 pub record Valid (a : Adsr) : Type 0 where
   pub rate : a .«sample_rate_hz» ≤ 65537
-  pub times : Times (a .spec)
-  pub counts : running (a .phase) ≡ true → Counting (a .«samples_in_phase») (a .«phase_length_samples»)
+  pub counts : running (a .phase) ≡ true → a .«samples_in_phase» < a .«phase_length_samples»

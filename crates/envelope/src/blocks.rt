@@ -6,7 +6,7 @@ ghost use lib.ListN.{drop, replicate};
 ghost use lib.Seq.{sets};
 ghost use Rattle.laws.specs.Made.{Made};
 ghost use Rattle.laws.specs.Runs.{after, given};
-ghost use Rattle.envelope.specs.Adsrs.{Valid, Counting, ticked, advancedToward};
+ghost use Rattle.envelope.specs.Adsrs.{Valid, ticked, advancedToward};
 ghost use Rattle.envelope.specs.Blocks.{Stays, levelAfter, levelToward};
 use super::Adsr;
 use super::AdsrPhase;
@@ -24,7 +24,7 @@ fn hold(level: u8, at: usize, n: usize, out: &mut [u8; 256])
 
 // How many counts, at most n, stay below the length.
 fn ticks_left(count: u32, length: u32, n: usize) -> usize
-    requires { ⌜ Counting count length ⌝ }
+    requires { ⌜ count < length ⌝ }
     ensures { λ r. ⌜ (r ≤ n) × (count + r < length) ⌝ }
 {
     let left = (length - count - 1) as usize;
@@ -34,7 +34,7 @@ fn ticks_left(count: u32, length: u32, n: usize) -> usize
 impl Adsr {
     // n ticks towards a target that end no phase, their levels from `at` on.
     fn ramp(self, target: u8, at: usize, n: usize, out: &mut [u8; 256]) -> Adsr
-        requires { ⌜ (at + n ≤ 256) × Counting (self .«samples_in_phase» + n) (self .«phase_length_samples») ⌝ }
+        requires { ⌜ (at + n ≤ 256) × (self .«samples_in_phase» + n < self .«phase_length_samples») ⌝ }
         ensures { λ r. ⌜ r ≡ after (advancedToward target) n self ⌝ }
         ensures { λ _. ⌜ now (out .exit) ≡ sets (now (out .entry)) at (given (advancedToward target) (levelToward target) n self) ⌝ }
     {

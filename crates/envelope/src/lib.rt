@@ -4,7 +4,7 @@ ghost use Prim.Native.Nat.{_<_, _≤_, _*_, _/_};
 ghost use Rattle.laws.specs.Made.{Made};
 ghost use Rattle.error.specs.Told.{Answered};
 ghost use Rattle.laws.specs.Durations.{samplesOf};
-ghost use Rattle.envelope.specs.Adsrs.{Valid, Counting, clickSpec, padSpec, idleAdsr, triggered, released, ticked, beganDecay, sustained, ended, advancedToward, nextLevel, active};
+ghost use Rattle.envelope.specs.Adsrs.{Valid, clickSpec, padSpec, idleAdsr, triggered, released, ticked, beganDecay, sustained, ended, advancedToward, nextLevel, active};
 ghost use Rattle.envelope.specs.Alone.{ValidEnvelope, opened, toldOpened, triggeredEnvelope, releasedEnvelope, tickedEnvelope};
 use error::AudioError;
 
@@ -68,22 +68,22 @@ fn ms_to_samples(ms: u16, sample_rate_hz: u32) -> u32
     (ms as u32) * sample_rate_hz / 1000
 }
 
-// Most steps are of no level at all, and those need no division.
+// Most steps are of no level at all, and those need no division. The product of any length has room in 64 bits.
 fn part(distance: u8, count: u32, length: u32) -> u8
-    requires { ⌜ (0 < length) × (count ≤ length) × (length ≤ 4294967) ⌝ }
+    requires { ⌜ (0 < length) × (count ≤ length) ⌝ }
     ensures { λ r. ⌜ r ≡ distance * count / length ⌝ }
 {
-    let product = (distance as u32) * count;
-    if product < length {
+    let product = (distance as u64) * (count as u64);
+    if product < length as u64 {
         0
     } else {
-        (product / length) as u8
+        (product / length as u64) as u8
     }
 }
 
 // The source's `min` and `clamp` never act here: the level goes from where it is towards the target and not past it.
 fn next_level(level: u8, target: u8, count: u32, length: u32) -> u8
-    requires { ⌜ (0 < length) × (count ≤ length) × (length ≤ 4294967) ⌝ }
+    requires { ⌜ (0 < length) × (count ≤ length) ⌝ }
     ensures { λ r. ⌜ r ≡ nextLevel level target count length ⌝ }
 {
     if level < target {
@@ -259,7 +259,7 @@ impl Adsr {
     }
 
     fn advance_toward(self, target: u8) -> Adsr
-        requires { ⌜ Counting (self .«samples_in_phase») (self .«phase_length_samples») ⌝ }
+        requires { ⌜ self .«samples_in_phase» < self .«phase_length_samples» ⌝ }
         ensures { λ r. ⌜ r ≡ advancedToward target self ⌝ }
     {
         let count = self.samples_in_phase + 1;

@@ -1,8 +1,19 @@
-// Decibels, in the source's order of operations.
+// Floats by their bits and held to a range; decibels, in the source's order of operations.
 ghost use mathlib.Core.Path.{_≡_};
-ghost use lib.Ieee.{toUnsigned};
+ghost use lib.Ieee.{binary32, ofBits, toUnsigned};
 ghost use Rattle.laws.specs.F32.{heldToF};
 ghost use Rattle.fixed.specs.Decibels.{cutToByte, gainOfDb, log2Of, dbOfGain};
+
+// The float that bits stand for. A NaN's pattern gives the one NaN that there is in a number's value.
+pub fn float_of(bits: u32) -> f32
+    ensures { λ r. ⌜ r ≡ ofBits binary32 bits ⌝ }
+{
+    if bits % 0x8000_0000 > 0x7f80_0000 {
+        0.0 / 0.0
+    } else {
+        f32::from_bits(bits)
+    }
+}
 
 // The source's `x.clamp(lo, hi)`.
 pub fn clamp_f32(x: f32, lo: f32, hi: f32) -> f32

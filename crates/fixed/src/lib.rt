@@ -11,6 +11,7 @@ mod floats;
 
 pub use floats::clamp_f32;
 pub use floats::db_to_q8;
+pub use floats::float_of;
 pub use floats::q8_to_db;
 
 // A 32-bit phase; its top bits index a wave.

@@ -5,9 +5,11 @@
 --     Waves        the four waveforms at a phase and a step
 --     Oscillators  the oscillator and the voice around it, call by call
 --     Blocks       requests one after another
+--     Restores     an oscillator and a voice from their fields
 pub mod Ranges
 pub mod Blep
 pub mod Sine
 pub mod Waves
 pub mod Oscillators
 pub mod Blocks
+pub mod Restores

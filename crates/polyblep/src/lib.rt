@@ -1,6 +1,6 @@
 // Band-limited oscillator: a binary32 phase, four waveforms with their edges rounded off, every operation in the source's
 // order. corrections.rt has the corrections and the sine, waves.rt the waveforms, cast.rt the cut to eight bits,
-// blocks.rt a block of samples at once.
+// blocks.rt a block of samples at once, restores.rt an oscillator and a voice from their fields.
 ghost use mathlib.Core.Path.{_≡_};
 ghost use Prim.Native.Nat.{max};
 ghost use Rattle.laws.specs.Made.{Made};
@@ -10,11 +10,14 @@ use fixed::Given;
 mod blocks;
 mod cast;
 mod corrections;
+mod restores;
 mod waves;
 
 pub use blocks::BlepFilled;
 pub use corrections::poly_blamp;
 pub use corrections::poly_blep;
+pub use restores::Restored;
+pub use restores::RestoredVoice;
 
 pub enum PolyBlepWaveform {
     Sine,

@@ -28,7 +28,7 @@ use Rattle.tier.specs.declared.KindRead.{KindRead}
 use Rattle.tier.specs.declared.KindRead.the-variants.{Kind, Unknown}
 use Rattle.hex.specs.Hex.{allDigits, byteAt, wideAt, longAt}
 use Rattle.script.specs.declared.Reply.{Reply}
-use Rattle.script.specs.declared.Reply.the-variants.{Bad, Word, Levels, State, Duties, Source, Voice}
+use Rattle.script.specs.declared.Reply.the-variants.{Bad, Word, Levels, State, Duties, Source, Voice, Restored}
 
 -- fields with a sign, in two's complement
 abbrev pub sampleAt : List ℕ → ℕ → ℤ
@@ -146,6 +146,10 @@ unfoldable pub voiceReply : List ℕ → Reply
 voiceReply l =
     cond (ltb (byteAt l 8) (waveformsOf (byteAt l 1)) && (leb (byteAt l 22) 1 && (leb (byteAt l 26) 1 && leb (wideAt l 27) 16000))) Voice Bad
 
+-- 6A, oscillator from its bits: phase (4), step (4), "waveform (1: 0 to 3), requests printed (2, at most 16,000)"
+unfoldable pub restoredReply : List ℕ → Reply
+restoredReply l = cond (ltb (byteAt l 9) 4 && leb (wideAt l 10) 16000) Restored Bad
+
 -- the records by their code, each with its length; any other code is bad
 abbrev pub replyFor : ℕ → List ℕ → Reply
 replyFor code l =
@@ -171,7 +175,8 @@ replyFor code l =
     (cond (eqb code 0x59) (sized n 1 (conversion32Reply l))
     (cond (eqb code 0x60) (sized n 17 (sourceReply l))
     (cond (eqb code 0x61) (sized n 28 (voiceReply l))
-    Bad))))))))))))))))))))
+    (cond (eqb code 0x6A) (sized n 11 (restoredReply l))
+    Bad)))))))))))))))))))))
 
 -- "No good line is longer than 8,194 digits"; the first byte is the code
 unfoldable pub replyOf : List ℕ → Reply

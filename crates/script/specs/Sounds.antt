@@ -1,6 +1,6 @@
--- A source alone (60): how it starts, its requests, and the fields of its state. Assumes nothing.
+-- A source alone (60), and an oscillator from its bits (6A): how it starts, its requests, and the fields of its state. Assumes nothing.
 use Prim.Native.Nat.{ℕ, min}
-use mathlib.Core.Bool.{cond}
+use mathlib.Core.Bool.{true, cond}
 use mathlib.Core.List.{List, _++_}
 use lib.Dec.{leb, eqb}
 use mir.Syntax.{w8}
@@ -9,8 +9,13 @@ use Rattle.error.specs.Numbers.{numberOf}
 use Rattle.error.specs.declared.AudioError.the-variants as E
 use Rattle.fixed.specs.declared.Given.{Given}
 use Rattle.fixed.specs.declared.Given.the-variants as G
+use Rattle.tone.specs.Duration.{forever}
+use Rattle.polyblep.specs.Restores.{restoredVoice}
+use Rattle.polyblep.specs.declared.restores.RestoredVoice.{RestoredVoice}
+use Rattle.polyblep.specs.declared.restores.RestoredVoice.the-variants as B
 use Rattle.voice.specs.Sources.{carrierGiven, steppedSource, toneSource, polyBlepSource, fmSource}
 use Rattle.voice.specs.declared.source.VoiceSource.{VoiceSource}
+use Rattle.voice.specs.declared.source.VoiceSource.the-variants as S
 use Rattle.voice.specs.declared.source.Carrier.{Carrier}
 use Rattle.voice.specs.declared.source.Carrier.the-variants as C
 use Rattle.voice.specs.declared.source.SourceStep.{SourceStep}
@@ -71,3 +76,20 @@ sourceRun l =
 -- 60, source alone: "number (rate above 65,537 is 2); if 00, a second line"
 unfoldable pub sourceText : List ℕ → List ℕ
 sourceText l = cond (leb (longAt l 9) 65537) (sourceRun l) (numberLine (numberOf E.BadRate))
+
+-- the voice of 6A sounds without end; its Hz and rate are a new voice's
+abbrev pub restoredAt : List ℕ → RestoredVoice
+restoredAt l = restoredVoice (longAt l 1) (longAt l 5) (polyBlepWaveform (byteAt l 9)) 440 48000 forever true
+
+-- requests of a source, and the state that they leave
+abbrev pub requestsLine : ℕ → VoiceSource → List ℕ
+requestsLine n s =
+    numberLine 0 ++ texts request givenText n (noRequest s) ++ sourceFields (stepped request n (noRequest s) .source) ++ newline
+
+abbrev pub restoredLines : ℕ → RestoredVoice → List ℕ
+restoredLines n (B.Voice v) = requestsLine n (S.PolyBlep v)
+restoredLines n B.Refused = numberLine 1
+
+-- 6A, oscillator from its bits: "01 where the phase or the step is out of its range; else 00 and a second line"
+unfoldable pub restoredText : List ℕ → List ℕ
+restoredText l = restoredLines (printedAt l 10) (restoredAt l)

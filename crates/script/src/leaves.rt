@@ -1,6 +1,5 @@
 // The records of one number each: fields in, number out.
 ghost use mathlib.Core.Path.{_≡_};
-ghost use lib.Ieee.{binary32, ofBits};
 ghost use Rattle.script.specs.Replies.{gainReply, lerpReply, panReply, incrementReply, sineReply, toGainReply, toDecibelsReply, phaseReply, crossfadeReply, clampReply, kindReply};
 use crate::Reply;
 use hex::byte_at;
@@ -62,21 +61,10 @@ pub(crate) fn sine(l: &[u8]) -> Reply
     }
 }
 
-// A NaN's pattern gives the one NaN that there is in a number's value.
-fn float_of(bits: u32) -> f32
-    ensures { λ r. ⌜ r ≡ ofBits binary32 bits ⌝ }
-{
-    if bits % 0x8000_0000 > 0x7f80_0000 {
-        0.0 / 0.0
-    } else {
-        f32::from_bits(bits)
-    }
-}
-
 pub(crate) fn decibels_to_gain(l: &[u8]) -> Reply
     ensures { λ r. ⌜ r ≡ toGainReply (now (l .entry)) ⌝ }
 {
-    let value = fixed::db_to_q8(float_of(long_at(l, 1)));
+    let value = fixed::db_to_q8(fixed::float_of(long_at(l, 1)));
     Reply::Word {
         value: value as u64,
         digits: 2,

@@ -1,4 +1,4 @@
-// Answers to a script's lines: records 40 to 48 of the replay format and our own 50 to 61.
+// Answers to a script's lines: records 40 to 48 of the replay format and our own 50 to 6A.
 ghost use mathlib.Core.Path.{_≡_};
 ghost use Rattle.script.specs.Replies.{sized, dutiesReply, replyFor, replyOf};
 ghost use Rattle.script.specs.Answers.{Answers};
@@ -21,6 +21,7 @@ pub enum Reply {
     Duties,
     Source,
     Voice,
+    Restored,
 }
 
 // How many bytes the answer has, and whether the run goes on.
@@ -85,6 +86,7 @@ fn reply_for(code: u8, l: &[u8]) -> Reply
         0x59 => sized(n, 1, outputs::conversion_to_i32(l)),
         0x60 => sized(n, 17, sounds::source_reply(l)),
         0x61 => sized(n, 28, voices::voice_reply(l)),
+        0x6A => sized(n, 11, sounds::restored_reply(l)),
         _ => Reply::Bad,
     }
 }
@@ -138,6 +140,10 @@ pub fn answer(line: &[u8], out: &mut [u8; 262144]) -> Answered
         }
         Reply::Voice => {
             let len = voices::voice(line, out);
+            Answered { len, more: true }
+        }
+        Reply::Restored => {
+            let len = sounds::restored(line, out);
             Answered { len, more: true }
         }
     }

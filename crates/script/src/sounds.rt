@@ -1,12 +1,13 @@
-// A source alone: how it starts, its requests, and what is printed of them.
+// A source alone, and an oscillator from its bits: how it starts, its requests, and what is printed of them.
 ghost use mathlib.Core.Path.{_≡_};
 ghost use Prim.Native.Nat.{_+_, _*_, _≤_, _<_, min};
 ghost use Rattle.laws.specs.Made.{Made};
+ghost use Rattle.polyblep.specs.Restores.{ValidRestoredVoice};
 ghost use Rattle.voice.specs.Sources.{ValidSource, ValidStep};
 ghost use Rattle.hex.specs.Hex.{wideAt, Laid, Wrote};
-ghost use Rattle.script.specs.Replies.{waveformsOf, sourceReply};
+ghost use Rattle.script.specs.Replies.{waveformsOf, sourceReply, restoredReply};
 ghost use Rattle.script.specs.Runs.{stepped, texts};
-ghost use Rattle.script.specs.Sounds.{sourceAt, passedOver, request, givenNumber, givenText, carrierNumber, sourceRun, sourceText};
+ghost use Rattle.script.specs.Sounds.{sourceAt, passedOver, request, givenNumber, givenText, carrierNumber, sourceRun, sourceText, requestsLine, restoredAt, restoredText};
 use crate::Reply;
 use fields::polyblep_waveform;
 use fields::put_source;
@@ -19,6 +20,8 @@ use hex::put;
 use hex::put_line;
 use hex::three_at;
 use hex::wide_at;
+use polyblep::PolyBlepVoice;
+use polyblep::RestoredVoice;
 use voice::Carrier;
 use voice::SourceStep;
 use voice::VoiceSource;
@@ -155,5 +158,61 @@ pub(crate) fn source(l: &[u8], out: &mut [u8; 262144]) -> usize
         run_source(l, out)
     } else {
         put_line(out, 2, 2)
+    }
+}
+
+pub(crate) fn restored_reply(l: &[u8]) -> Reply
+    ensures { λ r. ⌜ r ≡ restoredReply (now (l .entry)) ⌝ }
+{
+    if byte_at(l, 9) >= 4 {
+        return Reply::Bad;
+    }
+    if wide_at(l, 10) <= 16000 {
+        Reply::Restored
+    } else {
+        Reply::Bad
+    }
+}
+
+// A voice that sounds without end, with a new voice's Hz and rate.
+fn restored_at(l: &[u8]) -> RestoredVoice
+    ensures { λ r. ⌜ Made ValidRestoredVoice (restoredAt (now (l .entry))) r ⌝ }
+{
+    let waveform = polyblep_waveform(byte_at(l, 9));
+    PolyBlepVoice::restored(
+        long_at(l, 1),
+        long_at(l, 5),
+        waveform,
+        440,
+        48_000,
+        0xffff_ffff,
+        true,
+    )
+}
+
+fn run_requests(source: VoiceSource, count: u16, out: &mut [u8; 262144]) -> usize
+    requires { ⌜ ValidSource source × (count ≤ 16000) ⌝ }
+    ensures { λ r. ⌜ Wrote (now (out .entry)) 0 (requestsLine count source) (now (out .exit)) r ⌝ }
+{
+    let n = put_line(out, 0, 2);
+    let first = SourceStep {
+        source,
+        given: Given::None,
+    };
+    let to = requests(out, n, first, count);
+    let last = to.last;
+    let s = last.source;
+    let end = put_source(out, to.next, s);
+    end_line(out, end)
+}
+
+pub(crate) fn restored(l: &[u8], out: &mut [u8; 262144]) -> usize
+    ensures { λ r. ⌜ Wrote (now (out .entry)) 0 (restoredText (now (l .entry))) (now (out .exit)) r ⌝ }
+{
+    let count = printed_at(l, 10);
+    let restored = restored_at(l);
+    match restored {
+        RestoredVoice::Voice(v) => run_requests(VoiceSource::PolyBlep(v), count, out),
+        RestoredVoice::Refused => put_line(out, 1, 2),
     }
 }

@@ -2,7 +2,6 @@
 use mathlib.Core.Path.{_≡_, refl, sym}
 use mathlib.Core.Bool.{Bool, true, false, cond, or-true, _||_}
 use Prim.Native.Nat.{ℕ, _≤_}
-use native.Mathlib.Omega.{arith}
 use Rattle.envelope.specs.declared.Adsr.{Adsr}
 use Rattle.envelope.specs.declared.AdsrSpec.{AdsrSpec}
 use Rattle.envelope.specs.Adsrs as A
@@ -35,11 +34,8 @@ valid-entry K.Pcm8 a b r = tt
 valid-entry K.Adpcm a b r = tt
 valid-entry K.SigmaDeltaBits a b r = tt
 
-pub click-times : A.Times A.clickSpec
-click-times = record { attack = omega arith; decay = omega arith; release = omega arith }
-
 valid-click : {rate : ℕ} → rate ≤ 65537 → A.Valid (A.idleAdsr A.clickSpec rate)
-valid-click h = E.valid-idle h click-times
+valid-click h = E.valid-idle h
 
 pub valid-silent : {rate : ℕ} → rate ≤ 65537 → Valid (silentVoice rate)
 unfolding silentVoice
@@ -48,9 +44,9 @@ valid-silent h = record { rate = h; source = tt; adsr = valid-click h }
 pub valid-sounding : {v : Voice} {s : VoiceSource} {a : Adsr} → Valid v → ValidSource s → A.Valid a → Valid (sounding v s a)
 valid-sounding h k l = record { rate = h .rate; source = k; adsr = l }
 
-pub valid-triggered : {v : Voice} {spec : AdsrSpec} → Valid v → A.Times spec → Valid (triggeredVoice v spec)
+pub valid-triggered : {v : Voice} (spec : AdsrSpec) → Valid v → Valid (triggeredVoice v spec)
 unfolding triggeredVoice
-valid-triggered h t = valid-sounding h (h .source) (E.valid-triggered (E.valid-idle (h .rate) t))
+valid-triggered spec h = valid-sounding h (h .source) (E.valid-triggered (E.valid-idle (h .rate)))
 
 pub valid-released : {v : Voice} → Valid v → Valid (releasedVoice v)
 unfolding releasedVoice

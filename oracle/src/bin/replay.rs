@@ -1,5 +1,5 @@
 //! Reads a script on standard input and prints the Rust original's answers: the records of the replay format and our own 50
-//! to 69 (docs/REPLAY.md). A bad line prints FFFF and ends the run.
+//! to 6A (docs/REPLAY.md). A bad line prints FFFF and ends the run.
 
 #[path = "replay/answers.rs"]
 mod answers;
@@ -31,7 +31,7 @@ const LEND: u8 = 0x12;
 type Answer = fn(&mut Fields, &mut Answers) -> Answered;
 
 /// The records that need no engine: code, least and greatest number of bytes after it, and what answers it.
-const ALONE: [(u8, usize, usize, Answer); 21] = [
+const ALONE: [(u8, usize, usize, Answer); 22] = [
     (0x40, 2, 2, steps::gain),
     (0x41, 3, 3, steps::lerp),
     (0x42, 4, 4, steps::limiter),
@@ -53,6 +53,7 @@ const ALONE: [(u8, usize, usize, Answer); 21] = [
     (0x59, 1, 1, steps::conversion_to_i32),
     (0x60, 17, 17, sounds::source_alone),
     (0x61, 28, 28, sounds::voice_alone),
+    (0x6A, 11, 11, sounds::oscillator_from_bits),
 ];
 
 fn main() -> io::Result<()> {

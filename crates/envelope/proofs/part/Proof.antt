@@ -1,7 +1,7 @@
--- The distance is at most 255 and the count at most 4,294,967, so the product fits 32 bits; the quotient is at most the distance,
--- and 0 below the length. Assumes nothing.
-use Prim.Native.Nat.{_≤_, _*_, _/_}
-use mathlib.Core.Path.{_≡_, refl, sym}
+-- The distance is at most 255 and the count has 32 bits, so the product fits 64; the quotient is at most the distance, and 0 below
+-- the length. Assumes nothing.
+use Prim.Native.Nat.{_≤_}
+use mathlib.Core.Path.{sym}
 use native.Mathlib.Nat.{div-eq-of-lt, mul-le-mul-left, mul-le-mul-right, le-trans}
 use native.Mathlib.Omega.{arith}
 use borrow.Author.Needs.{needs}
@@ -12,7 +12,7 @@ use Rattle.envelope.proofs.part.Tie as tie
 mul-product : tie.Need-mul-product
 mul-product c =
     let d : c .args .distance ≤ 255 = omega arith in
-    let k : c .args .count ≤ 4294967 = omega arith in
+    let k : c .args .count ≤ 4294967295 = omega arith in
     record { fits = omega (arith, le-trans (mul-le-mul-right (c .args .count) d) (mul-le-mul-left 255 k)) }
 
 cast-result : tie.Need-cast-result

@@ -45,6 +45,11 @@ returns-7 c =
     let t = c .before .before in
     done (search needs) (sym (t .before .before .reply-of .ensures) ∙ t .enum-told6 .given .1) (c .voice .ensures)
 
+returns-8 : tie.Need-returns-8
+returns-8 c =
+    let t = c .before .before in
+    done (search needs) (sym (t .before .before .reply-of .ensures) ∙ t .enum-told7 .given .1) (c .restored .ensures)
+
 pub answer-spec : {M : Type 1} → statement M
 answer-spec =
     tie.close
@@ -65,10 +70,13 @@ answer-spec =
     (λ c κs. search needs)
     (λ c. search needs)
     (λ c κs. search needs)
+    (λ c. search needs)
+    (λ c κs. search needs)
     returns
     returns-2
     returns-3
     returns-4
     returns-5
     returns-6
-    returns-7)
+    returns-7
+    returns-8)

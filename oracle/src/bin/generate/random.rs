@@ -9,7 +9,7 @@ type Drawn = fn(&mut Draw) -> Line;
 pub const MOST_SAMPLES: u32 = 4_089;
 
 /// Every record that is read today.
-pub const RECORDS: [(u8, Drawn); 21] = [
+pub const RECORDS: [(u8, Drawn); 22] = [
     (0x40, |d| record(0x40, &[i8(d.i8()), u8(d.u8())])),
     (0x41, |d| {
         record(0x41, &[i8(d.i8()), i8(d.i8()), u8(d.u8())])
@@ -35,6 +35,7 @@ pub const RECORDS: [(u8, Drawn); 21] = [
     (0x59, |d| record(0x59, &[i8(d.i8())])),
     (0x60, sources::any_source),
     (0x61, sources::any_voice),
+    (0x6A, sources::any_restored),
 ];
 
 pub fn any(draw: &mut Draw) -> Line {

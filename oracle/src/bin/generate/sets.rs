@@ -11,7 +11,7 @@ pub const FLOATS: u32 = 2_000_000;
 
 type Print = fn(&mut Script, u32);
 
-pub const SETS: [(&str, Print); 17] = [
+pub const SETS: [(&str, Print); 18] = [
     ("gain", |script, _| gain(script)),
     ("sine", |script, _| bytes(script, 0x45)),
     ("pan", |script, _| bytes(script, 0x43)),
@@ -32,6 +32,7 @@ pub const SETS: [(&str, Print); 17] = [
     ("envelope", |script, _| envelope(script)),
     ("sources", |script, _| sources::sources(script)),
     ("voices", |script, _| sources::voices(script)),
+    ("restored", |script, _| sources::restored(script)),
 ];
 
 /// Nothing where there is no set of that name.

@@ -1,4 +1,4 @@
-//! Sources and voices alone: records 60 and 61.
+//! Sources and voices alone: records 60, 61 and 6A.
 
 use crate::draw::Draw;
 use crate::edges::RATES;
@@ -91,7 +91,7 @@ pub fn voices(script: &mut Script) {
 }
 
 /// For the recorded list: document 01's first PolyBLEP samples (sawtooth 127, square 0), then a run of each waveform, printed
-/// past its end, and a voice of each on one side and on two; rates that are refused or just not.
+/// past its end, and a voice of each on one side and on two; rates that are refused or just not; oscillators from their bits.
 pub fn recorded(script: &mut Script) {
     for waveform in [1, 2] {
         script.add(&source(start((2, waveform), 440, 0, 48_000), 0, 1));
@@ -108,6 +108,88 @@ pub fn recorded(script: &mut Script) {
             script.add(&source(start(shape, 440, 10, rate), 3, 3));
         }
     }
+    for waveform in 0..4 {
+        for phase in [
+            0x8000_0000,
+            0x0000_0001,
+            0x3F7F_FFFF,
+            0x3F80_0000,
+            0x7FC0_0000,
+        ] {
+            for step in [0x8000_0000, 0x3EFF_7CEE, 0x3EFF_7CEF, 0xFF80_0000] {
+                script.add(&restored_at(phase, step, waveform, 9));
+            }
+        }
+    }
+}
+
+/// 0 and its neighbours, −0 and its own, subnormals, 0.25 and 0.5, 0.499 and 1 with their neighbours, the largest number, infinities
+/// and NaNs of both signs.
+const BITS: [u32; 32] = [
+    0x0000_0000,
+    0x8000_0000,
+    0x0000_0001,
+    0x8000_0001,
+    0x007F_FFFF,
+    0x0080_0000,
+    0x807F_FFFF,
+    0x8080_0000,
+    0x3300_0000,
+    0x3380_0000,
+    0x3A83_126F,
+    0x3C16_0000,
+    0x3E80_0000,
+    0x3EFF_7CED,
+    0x3EFF_7CEE,
+    0x3EFF_7CEF,
+    0x3EFF_FFFF,
+    0x3F00_0000,
+    0x3F00_0001,
+    0x3F7F_FFFE,
+    0x3F7F_FFFF,
+    0x3F80_0000,
+    0x3F80_0001,
+    0xBF80_0000,
+    0xBEFF_7CEE,
+    0x7F7F_FFFF,
+    0x7F80_0000,
+    0xFF80_0000,
+    0x7F80_0001,
+    0x7FC0_0000,
+    0xFFC0_0000,
+    0xFFFF_FFFF,
+];
+
+fn restored_at(phase: u32, step: u32, waveform: u8, printed: u16) -> Line {
+    record(0x6A, &[u32(phase), u32(step), u8(waveform), u16(printed)])
+}
+
+/// Every waveform at every phase and step of the list, and long runs from −0, at a step of −0 and at the longest.
+pub fn restored(script: &mut Script) {
+    for waveform in 0..4 {
+        for phase in BITS {
+            for step in BITS {
+                script.add(&restored_at(phase, step, waveform, 40));
+            }
+        }
+        for step in [0x8000_0000, 0x0000_0001, 0x3C16_0000, 0x3EFF_7CEE] {
+            script.add(&restored_at(0x8000_0000, step, waveform, 16_000));
+        }
+    }
+}
+
+/// A phase or step by its bits: one of the list, one within 0 and 1, or any.
+fn any_bits(draw: &mut Draw) -> u32 {
+    match draw.below(4) {
+        0 => draw.pick(&BITS),
+        1 => draw.u32(),
+        _ => draw.below(0x3F80_0001),
+    }
+}
+
+pub fn any_restored(draw: &mut Draw) -> Line {
+    let (phase, step) = (any_bits(draw), any_bits(draw));
+    restored_at(phase, step, draw.below(4) as u8, draw.size(16_000) as u16)
 }
 
 fn any_start(draw: &mut Draw) -> Vec<Field> {

@@ -1,9 +1,10 @@
-//! A source or a voice alone, with no engine: our own records 60 and 61.
+//! A source or a voice alone, with no engine: our own records 60, 61 and 6A.
 
 use crate::answers::{Answers, state_of};
 use crate::fields::{Answered, Bad, Fields};
 use crate::rules::{BAD_RATE, HIGHEST_RATE};
 use oracle::source::VoiceSource;
+use oracle::synth::polyblep::voice_at;
 use oracle::synth::{PolyBlepWaveform, Waveform};
 use oracle::voice::{Voice, peek_source};
 
@@ -96,4 +97,26 @@ pub fn voice_alone(fields: &mut Fields, answers: &mut Answers) -> Answered {
     }
     answers.fields(&state_of(&voice));
     answers.line(voice.is_audible() as i64, 2)
+}
+
+/// What a phase or a step outside its range is answered with; it is no number of document 01's.
+const OUT_OF_RANGE: i64 = 1;
+
+pub fn oscillator_from_bits(fields: &mut Fields, answers: &mut Answers) -> Answered {
+    let (phase, step) = (f32::from_bits(fields.u32()), f32::from_bits(fields.u32()));
+    let waveform = fields.polyblep_waveform()?;
+    let (_, printed) = read_counts(0, fields.u16())?;
+    if !((0.0..1.0).contains(&phase) && (0.0..=0.499).contains(&step)) {
+        return answers.line(OUT_OF_RANGE, 2);
+    }
+    answers.line(0, 2)?;
+    let mut source = VoiceSource::PolyBlep(voice_at(phase, step, waveform));
+    for _ in 0..printed {
+        answers.given(source.next_raw_sample());
+    }
+    let mut state = Vec::new();
+    peek_source(&source, &mut state);
+    answers.fields(&state);
+    answers.end_line();
+    Ok(())
 }

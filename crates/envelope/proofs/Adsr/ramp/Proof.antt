@@ -23,12 +23,12 @@ loop-holds : tie.Need-loop-holds Inv-loop μ-loop
 loop-holds c = (omega arith, omega arith, wrote-none _ _)
 
 add-count : tie.Need-add-count Inv-loop μ-loop
-add-count c = let s = c .before in omega (arith, s .before .pre .1 .below, s .before .pre .1 .short, s .loop .inv .1)
+add-count c = let s = c .before in omega (arith, s .before .pre .1, s .loop .inv .1)
 
 next-level-requires : tie.Need-next-level-requires Inv-loop μ-loop
 next-level-requires c κs =
     let s = c .before in
-    (omega (arith, s .before .pre .1 .below), omega (arith, s .before .pre .1 .below, s .loop .inv .1), s .before .pre .1 .short)
+    (omega (arith, s .before .pre .1), omega (arith, s .before .pre .1, s .loop .inv .1))
 
 add-out : tie.Need-add-out Inv-loop μ-loop
 add-out c = let s = c .before .before in omega (arith, s .before .pre .0)

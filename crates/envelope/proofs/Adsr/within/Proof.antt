@@ -2,8 +2,6 @@
 use mathlib.Core.Path.{_≡_, refl, sym, ap, _∙_}
 use Prim.Native.Nat.{ℕ, _+_, _<_}
 use mathlib.Core.List.{List}
-use mathlib.Core.Bool.{true}
-use native.Mathlib.Omega.{arith}
 use borrow.Author.Needs.{needs}
 use lib.ListN.{replicate}
 use lib.Seq.{sets}
@@ -13,29 +11,26 @@ use Rattle.laws.proofs.Made.{made}
 use Rattle.envelope.specs.declared.Adsr.{Adsr}
 use Rattle.envelope.specs.declared.AdsrPhase.{AdsrPhase}
 use Rattle.envelope.specs.declared.AdsrPhase.the-variants as P
-use Rattle.envelope.specs.Adsrs.{Valid, Counting, running, ticked, tickedIn, advancedToward, orAtEnd, beganDecay, sustained, ended}
-use Rattle.envelope.specs.Blocks.{Stays, levelAfter, levelToward}
+use Rattle.envelope.specs.Adsrs.{Valid, ticked, tickedIn, advancedToward, orAtEnd, beganDecay, sustained, ended}
+use Rattle.envelope.specs.Blocks.{levelAfter, levelToward}
 use Rattle.envelope.proofs.Ticks.{valid-ticks, after-within, given-within, still-after, still-given}
 use Rattle.envelope.proofs.Adsr.within.Statement.{statement}
 use Rattle.envelope.proofs.Adsr.within.Tie as tie
 
-counting : (a : Adsr) (n : ℕ) → Valid a → Stays n a → running (a .phase) ≡ true → Counting (a .«samples_in_phase» + n) (a .«phase_length_samples»)
-counting a n h s r = record { below = s r; short = h .counts r .short }
-
 ramp-requires : tie.Need-ramp-requires
 ramp-requires c κs =
     let b = c .before .before .before in
-    (b .pre .2, counting (b .args .self) (b .args .n) (b .pre .0) (b .pre .1) (rw (c .before .enum-told .given .1)))
+    (b .pre .2, b .pre .1 (rw (c .before .enum-told .given .1)))
 
 ramp-requires-2 : tie.Need-ramp-requires-2
 ramp-requires-2 c κs =
     let b = c .before .before .before .before in
-    (b .pre .2, counting (b .args .self) (b .args .n) (b .pre .0) (b .pre .1) (rw (c .before .before .enum-told2 .given .1)))
+    (b .pre .2, b .pre .1 (rw (c .before .before .enum-told2 .given .1)))
 
 ramp-requires-3 : tie.Need-ramp-requires-3
 ramp-requires-3 c κs =
     let b = c .before .before .before in
-    (b .pre .2, counting (b .args .self) (b .args .n) (b .pre .0) (b .pre .1) (rw (c .before .enum-told3 .given .1)))
+    (b .pre .2, b .pre .1 (rw (c .before .enum-told3 .given .1)))
 
 module _ (a : Adsr) (n at : ℕ) (before : List ℕ) (h : Valid a) where
   abbrev Ticked : Adsr → List ℕ → Type 0

@@ -25,7 +25,7 @@ returns-2 c =
     let h : ltb 65537 (c .before .before .args .sample-rate-hz) ≡ false = le-ltb _ _ k in
     record {
       same = rw (h, c .new .ensures);
-      valid = record { inside = rw (c .new .ensures) (valid-idle k (record { attack = search needs; decay = search needs; release = search needs })) };
+      valid = record { inside = rw (c .new .ensures) (valid-idle k) };
     }
 
 pub open-spec : {M : Type 1} → statement M

@@ -1,12 +1,12 @@
--- `script::leaves::float_of` meets its contract: a pattern above that of infinity is a NaN's, and 0 ÷ 0 is the NaN.
+-- `fixed::floats::float_of` meets its contract: a pattern above that of infinity is a NaN's, and 0 ÷ 0 is the NaN.
 use borrow.Author.Needs.{needs}
 use borrow.Author.Tests.{lt-ltb, le-ltb}
 use mathlib.Core.Path.{_≡_, refl, sym, _∙_}
 use mathlib.Core.Bool.{true, false, true≢false}
 use lib.Ieee.{Float, binary32, nan, inf, fin, div, ofBits, round, isNan}
 use lib.Ieee.Bits.{nanBits-above, nanBits-is}
-use Rattle.script.proofs.leaves.float_of.Statement.{statement}
-use Rattle.script.proofs.leaves.float_of.Tie as tie
+use Rattle.fixed.proofs.floats.float_of.Statement.{statement}
+use Rattle.fixed.proofs.floats.float_of.Tie as tie
 
 from-bits : tie.Need-float-from-bits-result
 from-bits c = rw (nanBits-above, le-ltb _ _ (c .if1 .left)) tt

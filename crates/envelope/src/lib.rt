@@ -3,7 +3,7 @@ ghost use mathlib.Core.Path.{_≡_};
 ghost use Prim.Native.Nat.{_<_, _≤_, _*_, _/_};
 ghost use Rattle.laws.specs.Made.{Made};
 ghost use Rattle.laws.specs.Durations.{samplesOf};
-ghost use Rattle.envelope.specs.Adsrs.{Valid, Counting, clickSpec, padSpec, idleAdsr, triggered, released, ticked, beganDecay, sustained, ended, advancedToward, nextLevel, active};
+ghost use Rattle.envelope.specs.Adsrs.{Valid, Counting, clickSpec, defaultSpec, padSpec, idleAdsr, triggered, released, ticked, beganDecay, sustained, ended, advancedToward, nextLevel, active};
 ghost use Rattle.envelope.specs.Alone.{ValidEnvelope, OpenedAs, triggeredEnvelope, releasedEnvelope, tickedEnvelope};
 use error::AudioError;
 
@@ -24,8 +24,20 @@ impl AdsrSpec {
         AdsrSpec {
             attack_ms: 2,
             decay_ms: 40,
-            sustain_q8: 0,
+            sustain_q8: 0, // it rests at level 0
             release_ms: 10,
+        }
+    }
+
+    // The source's `Default`: no phase lasts.
+    pub fn default() -> AdsrSpec
+        ensures { λ r. ⌜ r ≡ defaultSpec ⌝ }
+    {
+        AdsrSpec {
+            attack_ms: 0,
+            decay_ms: 0,
+            sustain_q8: 0,
+            release_ms: 0,
         }
     }
 

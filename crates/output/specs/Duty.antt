@@ -14,6 +14,10 @@ use Rattle.output.specs.declared.PeriodRead.the-variants.{Accepted, Refu
 use Rattle.output.specs.declared.PwmMapper.{PwmMapper}
 use Rattle.output.specs.declared.Mapped.{Mapped}
 
+-- output.rs: the mode that stands where none is chosen
+abbrev pub defaultMode : DutyMode
+defaultMode = M.Linear
+
 -- "PWM period below 2 | 3 BadPeriod"
 abbrev pub periodRead : ℕ → PeriodRead
 periodRead n = cond (ltb n 2) (Refused E.BadPeriod) (Accepted (record { counts = n }))

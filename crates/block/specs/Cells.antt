@@ -1,4 +1,4 @@
--- Inner: cells of a block, written, added to, counted up; no contract of another crate cites it. Assumes nothing.
+-- Inner: cells of a block, written, added to, counted up. Assumes nothing.
 use Prim.Native.Nat.{ℕ, suc, _+_, _-_, _*_, _≤_, _<_}
 use mathlib.Core.Path.{_≡_}
 use mathlib.Core.Bool.{Bool, cond}

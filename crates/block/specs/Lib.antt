@@ -1,6 +1,6 @@
 -- What a reader believes of a block of frames.
 --     Blocks    what a block of frames gives
--- Inner, for this crate's own functions:
+-- Inner, for the code's own steps; no definition of another kind rests on it:
 --     Cells     cells of a block written, the others left
 --     Parts     a block in parts, as the code cuts it
 pub mod Cells

@@ -1,4 +1,4 @@
--- Inner: a block in parts, as the code cuts it; no contract of another crate cites it. Assumes nothing.
+-- Inner: a block in parts, as the code cuts it. Assumes nothing.
 use Prim.Native.Nat.{ℕ, _+_, _-_, _*_, _≤_, _<_}
 use mathlib.Core.Path.{_≡_}
 use mathlib.Core.Bool.{true, cond}

@@ -1,4 +1,4 @@
--- Inner: a block of frames on its way to cells; no contract of another crate cites it. Assumes nothing.
+-- Inner: a block of frames on its way to cells. Assumes nothing.
 use Prim.Native.Nat.{ℕ, _*_, _≤_, _<_}
 use mathlib.Core.Path.{_≡_}
 use mathlib.Core.List.{List, [], _∷_, map}

@@ -1,5 +1,5 @@
 //! Reads a script on standard input and prints the Rust original's answers: the records of the replay format and our own 50
-//! to 61 (docs/REPLAY.md). A bad line prints FFFF and ends the run.
+//! to 69 (docs/REPLAY.md). A bad line prints FFFF and ends the run.
 
 #[path = "replay/answers.rs"]
 mod answers;

@@ -26,6 +26,7 @@ use start::Request;
 use tone::Waveform;
 
 pub mod fills;
+mod opening;
 mod requests;
 pub mod ticks;
 

@@ -62,6 +62,10 @@ withVoices m vs =
       «stealing_policy» = m .«stealing_policy»;
     }
 
+-- engine.rs: the policy that stands where none is chosen
+abbrev pub defaultPolicy : VoiceStealingPolicy
+defaultPolicy = P.LowestPriorityOldest
+
 -- n silent voices, no bank, no fade
 unfoldable pub fresh : ℕ → AudioConfig → VoiceStealingPolicy → Mixer
 fresh n config policy =

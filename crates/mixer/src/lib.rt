@@ -3,7 +3,7 @@
 ghost use mathlib.Core.Path.{_≡_};
 ghost use Rattle.laws.specs.Made.{Made};
 ghost use Rattle.error.specs.Numbers.{numberOf};
-ghost use Rattle.mixer.specs.Mixers.{Valid, ValidChanged, fresh, notOpened, opened, withMasterGain, stopped, audibleCount, playing, voiceRead, panRead, panned, banked};
+ghost use Rattle.mixer.specs.Mixers.{Valid, ValidChanged, defaultPolicy, fresh, notOpened, opened, withMasterGain, stopped, audibleCount, playing, voiceRead, panRead, panned, banked};
 use bank::BankRead;
 use bank::BankSet;
 use bank::SoundBank;
@@ -17,6 +17,15 @@ use voice::Voice;
 pub enum VoiceStealingPolicy {
     LowestPriorityOldest,
     FreeChannelOnly,
+}
+
+impl VoiceStealingPolicy {
+    // The source's `Default`.
+    pub fn default() -> VoiceStealingPolicy
+        ensures { λ r. ⌜ r ≡ defaultPolicy ⌝ }
+    {
+        VoiceStealingPolicy::LowestPriorityOldest
+    }
 }
 
 pub struct Mixer {

@@ -15,6 +15,10 @@ use Rattle.output.specs.declared.PeriodRead.the-variants as R
 use Rattle.output.specs.declared.PwmMapper.{PwmMapper}
 use Rattle.output.specs.declared.Mapped.{Mapped}
 
+-- output.rs: the mode that stands where none is chosen
+abbrev pub defaultMode : DutyMode
+defaultMode = M.Linear
+
 -- "PWM period below 2 | 3 BadPeriod"
 abbrev pub periodRead : ℕ → Told Period
 periodRead n = cond (ltb n 2) (refused 3) (value (record { counts = n }))

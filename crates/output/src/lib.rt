@@ -7,7 +7,7 @@ ghost use Rattle.laws.specs.Whole.{heldTo, wrap32};
 ghost use Rattle.laws.specs.Made.{Made};
 ghost use Rattle.error.specs.Told.{Answered};
 ghost use Rattle.output.specs.Shapers.{fresh, shaped, quantized, pulse, fresh2ndOrder, shaped2ndOrder, ValidShaper, ValidShaped};
-ghost use Rattle.output.specs.Duty.{duty, periodRead, toldPeriod, ValidPeriod, freshMapper, mapped, ValidMapper, ValidMapped};
+ghost use Rattle.output.specs.Duty.{defaultMode, duty, periodRead, toldPeriod, ValidPeriod, freshMapper, mapped, ValidMapper, ValidMapped};
 ghost use Rattle.output.specs.Levels.{limitedBus, toldLimit, raised};
 use error::AudioError;
 
@@ -16,6 +16,15 @@ pub enum DutyMode {
     Linear,
     SigmaDelta,
     SigmaDelta2ndOrder,
+}
+
+impl DutyMode {
+    // The source's `Default`.
+    pub fn default() -> DutyMode
+        ensures { λ r. ⌜ r ≡ defaultMode ⌝ }
+    {
+        DutyMode::Linear
+    }
 }
 
 // x + y, wrapping in 32 bits: a sum of two i32 is at most one lap off.

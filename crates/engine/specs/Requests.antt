@@ -5,6 +5,7 @@ use mathlib.Core.Bool.{Bool, true, false, cond}
 use mathlib.Core.List.{List, [], _∷_, _++_, map, Perm}
 use mathlib.Core.Option.{Option, none, some, orElse}
 use lib.ListN.{length, take, getD, getElem?}
+use lib.Seq.{sets}
 use Rattle.error.specs.Told.{Told, value, refused}
 use Rattle.allocate.specs.Allocation.{priorityOf}
 use Rattle.mixer.specs.Mixers.{voicesOf, withVoices}
@@ -128,3 +129,18 @@ pub record PlaysAll (e : AudioEngine) (bytes requests : List ℕ) (after : Audio
   pub same : after ≡ playedAll e bytes (requestsOf requests)
   pub valid : ValidEngine after
   pub demand : Ranks e → Demand3 e bytes (requestsOf requests) after
+
+-- a request's outcome as a number of 16 bits: the voice that it got, or 256 × the refusal's number and 255
+abbrev pub outcomeCell : Told ℕ → ℕ
+outcomeCell (value i) = i
+outcomeCell (refused n) = 256 * n + 255
+
+-- the outcomes of requests, one after another
+unfoldable pub outcomesOf : AudioEngine → List ℕ → List Request → List ℕ
+outcomesOf e bytes [] = []
+outcomesOf e bytes (r ∷ rs) = let p = playing e bytes r in outcomeCell (toldPlay (p .outcome)) ∷ outcomesOf (p .engine) bytes rs
+
+-- playing them all and telling each one's outcome, in the cells from the front on as far as there are cells
+pub record PlaysEach (e : AudioEngine) (bytes requests cells : List ℕ) (after : AudioEngine) (told : List ℕ) : Type 0 where
+  pub plays : PlaysAll e bytes requests after
+  pub outcomes : told ≡ sets cells 0 (outcomesOf e bytes (requestsOf requests))

@@ -1,9 +1,9 @@
 // A list of play requests, ten bytes each.
 ghost use mathlib.Core.Path.{_≡_};
 ghost use Prim.Native.Nat.{_+_, _≤_};
-ghost use lib.ListN.{length};
+ghost use lib.ListN.{length, set};
 ghost use Rattle.engine.specs.Engines.{ValidEngine};
-ghost use Rattle.engine.specs.Requests.{big16At, requestAt, PlaysAll};
+ghost use Rattle.engine.specs.Requests.{big16At, requestAt, PlaysAll, PlaysEach};
 use crate::AudioEngine;
 use allocate::ranks::rank;
 use allocate::ranks::ranks_of;
@@ -36,12 +36,30 @@ fn request_at(l: &[u8], k: usize) -> Request
     }
 }
 
+// A cell that is not there is told nothing.
+fn tell(outcomes: &mut [u16], i: usize, cell: u16)
+    ensures { λ r. ⌜ now (outcomes .exit) ≡ set (now (outcomes .entry)) i cell ⌝ }
+{
+    if i < outcomes.len() {
+        outcomes[i] = cell;
+    }
+}
+
 impl AudioEngine {
-    // Plays every request of the slice, one after another. Fewer than ten bytes at its end are no request. Voices and their ranks stay in
-    // locals, since a state handed over for each request would cost more in copies than the request.
+    // Plays every request of the slice, one after another. Fewer than ten bytes at its end are no request.
     pub fn play_all(self, bytes: &[u8], requests: &[u8]) -> AudioEngine
         requires { ⌜ ValidEngine self ⌝ }
         ensures { λ r. ⌜ PlaysAll self (now (bytes .entry)) (now (requests .entry)) r ⌝ }
+    {
+        let mut none = [0u16; 1];
+        self.play_each(bytes, requests, &mut none[..0])
+    }
+
+    // The same, and each request's outcome in a cell of its own, as far as there are cells: the voice that it got, or 256 × its refusal's
+    // number and 255. Voices and their ranks stay in locals, since a state handed over for each request would cost more in copies than the request.
+    pub fn play_each(self, bytes: &[u8], requests: &[u8], outcomes: &mut [u16]) -> AudioEngine
+        requires { ⌜ ValidEngine self ⌝ }
+        ensures { λ r. ⌜ PlaysEach self (now (bytes .entry)) (now (requests .entry)) (now (outcomes .entry)) r (now (outcomes .exit)) ⌝ }
     {
         let count = requests.len() / 10;
         let mut state = self.state;
@@ -52,10 +70,11 @@ impl AudioEngine {
             let bank = state.bank;
             let policy = state.stealing_policy;
             match place(&ranks, state.n, policy, bank, bytes, request) {
-                Placed::Refused(_) => {}
+                Placed::Refused(e) => tell(outcomes, i, 256 * (e.number() as u16) + 255),
                 Placed::Voice(k, v) => {
                     ranks[k] = rank(v);
                     state.voices[k] = v;
+                    tell(outcomes, i, k as u16);
                 }
             }
         }

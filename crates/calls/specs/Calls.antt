@@ -7,22 +7,16 @@ use lib.Dec.{leb, eqb}
 use lib.ListN.{length}
 use mir.Syntax.{w8}
 use mir.Val.{ofZ}
-use Rattle.error.specs.Numbers.{numberOf}
-use Rattle.error.specs.declared.AudioError.the-variants as E
+use Rattle.error.specs.Told.{Told, value, refused, numberIn}
 use Rattle.allocate.specs.Allocation.{allocated}
-use Rattle.allocate.specs.declared.Allocated.{Allocated}
-use Rattle.allocate.specs.declared.Allocated.the-variants as A
 use Rattle.bank.specs.Search.{foundGiven}
-use Rattle.bank.specs.declared.EntryRead.{EntryRead}
-use Rattle.bank.specs.declared.EntryRead.the-variants as F
+use Rattle.bank.specs.declared.EffectEntry.{EffectEntry}
 use Rattle.mixer.specs.Mixers as M
 use Rattle.mixer.specs.declared.Outcome.{Outcome}
-use Rattle.mixer.specs.declared.Outcome.the-variants as O
 use Rattle.frame.specs.Frames.{stereoFrame, dutyFrame}
-use Rattle.play.specs.Plays.{played, toned, polyBleped}
+use Rattle.play.specs.Plays.{played, toldPlay, toned, polyBleped}
 use Rattle.play.specs.Fades.{faded}
 use Rattle.play.specs.declared.PlayOutcome.{PlayOutcome}
-use Rattle.play.specs.declared.PlayOutcome.the-variants as P
 use Rattle.engine.specs.Engines.{ValidEngine, boxed, changedBox, playedBox, requestOf}
 use Rattle.engine.specs.declared.AudioEngine.{AudioEngine}
 use Rattle.engine.specs.declared.EngineChanged.{EngineChanged}
@@ -66,16 +60,18 @@ allowed code l =
 
 -- "number: two digits, 00 where accepted, else the refusal number"
 abbrev pub outcomeReply : Outcome → Reply
-outcomeReply O.Done = R.Number 0
-outcomeReply (O.Refused e) = R.Number (numberOf e)
+outcomeReply o = R.Number (numberIn (M.toldOutcome o))
 
 abbrev pub changedCall : EngineChanged → Called
 changedCall c = record { reply = outcomeReply (c .outcome); engine = c .engine }
 
 -- "voice: two digits, FF where refused"
+abbrev pub placeReply : Told ℕ → Reply
+placeReply (value i) = R.Two 0 i
+placeReply (refused n) = R.Two n 0xFF
+
 abbrev pub playReply : PlayOutcome → Reply
-playReply (P.Voice i) = R.Two 0 i
-playReply (P.Refused e) = R.Two (numberOf e) 0xFF
+playReply o = placeReply (toldPlay o)
 
 abbrev pub playedCall : EnginePlayed → Called
 playedCall p = record { reply = playReply (p .outcome); engine = p .engine }
@@ -120,20 +116,16 @@ unfoldable pub stopCall : AudioEngine → Called
 stopCall e = silentCall (boxed (M.stopped (e .state)))
 
 -- 1A, entry search: "id (2) | number; if 00 also .." the entry
-abbrev pub entryReply : EntryRead → Reply
-entryReply (F.Entry entry) = R.Entry entry
-entryReply (F.Refused e) = R.Number (numberOf e)
+abbrev pub entryReply : Told EffectEntry → Reply
+entryReply (value entry) = R.Entry entry
+entryReply (refused n) = R.Number n
 
 unfoldable pub searchCall : List ℕ → List ℕ → AudioEngine → Called
 searchCall l bytes e = asked (entryReply (foundGiven (e .state .bank) bytes (wideAt l 1))) e
 
 -- 1C, allocate: "priority (1) | number (5 where there is none), voice"
-abbrev pub allocatedReply : Allocated → Reply
-allocatedReply (A.Voice i) = R.Two 0 i
-allocatedReply A.None = R.Two (numberOf E.VoiceBusy) 0xFF
-
 unfoldable pub allocateCall : List ℕ → AudioEngine → Called
-allocateCall l e = asked (allocatedReply (allocated (e .state) (byteAt l 1))) e
+allocateCall l e = asked (placeReply (allocated (e .state) (byteAt l 1))) e
 
 -- 1D, is playing, audible count: "two numbers of 2 digits"
 unfoldable pub audibleCall : AudioEngine → Called

@@ -4,8 +4,10 @@ ghost use mathlib.Core.Bool.{_&&_};
 ghost use lib.Dec.{leb};
 ghost use Rattle.laws.specs.Made.{Made};
 ghost use Rattle.hex.specs.Hex.{byteAt};
+ghost use Rattle.allocate.specs.Allocation.{toldPlace};
+ghost use Rattle.bank.specs.Entries.{toldEntry};
 ghost use Rattle.engine.specs.Engines.{ValidEngine};
-ghost use Rattle.calls.specs.Calls.{ValidCalled, sizedAs, allowed, outcomeReply, playReply, bankCall, playCall, fadeCall, toneCall, polyBlepCall, panCall, gainCall, stopCall, entryReply, searchCall, allocatedReply, allocateCall, audibleCall, stereoCall, dutyCall, callFor, called};
+ghost use Rattle.calls.specs.Calls.{ValidCalled, sizedAs, allowed, outcomeReply, playReply, bankCall, playCall, fadeCall, toneCall, polyBlepCall, panCall, gainCall, stopCall, entryReply, searchCall, placeReply, allocateCall, audibleCall, stereoCall, dutyCall, callFor, called};
 use allocate::Allocated;
 use bank::EffectEntry;
 use bank::EntryRead;
@@ -91,7 +93,7 @@ fn play_reply(o: PlayOutcome) -> Reply
 }
 
 fn entry_reply(r: EntryRead) -> Reply
-    ensures { λ s. ⌜ s ≡ entryReply r ⌝ }
+    ensures { λ s. ⌜ s ≡ entryReply (toldEntry r) ⌝ }
 {
     match r {
         EntryRead::Entry(entry) => Reply::Entry(entry),
@@ -100,7 +102,7 @@ fn entry_reply(r: EntryRead) -> Reply
 }
 
 fn allocated_reply(a: Allocated) -> Reply
-    ensures { λ r. ⌜ r ≡ allocatedReply a ⌝ }
+    ensures { λ r. ⌜ r ≡ placeReply (toldPlace a) ⌝ }
 {
     match a {
         Allocated::Voice(i) => Reply::Two(0, i as u64),

@@ -52,9 +52,9 @@ fn bank_fields(bank: BankSet) -> BankFields
             rate: NOTHING,
         },
         BankSet::Bank(b) => BankFields {
-            count: b.effect_count as u64,
-            len: b.len as u64,
-            rate: b.sample_rate_hz as u64,
+            count: b.effect_count() as u64,
+            len: b.len() as u64,
+            rate: b.sample_rate_hz() as u64,
         },
     }
 }

@@ -10,7 +10,7 @@ use Rattle.output.specs.Duty.{duty}
 use Rattle.output.proofs.Laws.{duty-of-2}
 use mathlib.Core.Option.{some, orElse}
 use Rattle.allocate.specs.Allocation.{allocated}
-use Rattle.bank.specs.Banks.{holding, bankOf, lentBank, payloadGiven}
+use Rattle.bank.specs.Banks.{bankOf, lentBank, payloadGiven}
 use Rattle.bank.specs.Entries.{fieldsAt, entryAt}
 use Rattle.bank.specs.Search.{halving, countFrom, decided, foundIn}
 use Rattle.engine.specs.Requests.{playedAll, priorities}
@@ -42,7 +42,7 @@ duties = refl
 requests :
     (handings twoVoices bell (ringing (3 ∷ 5 ∷ 5 ∷ 7 ∷ [])) ≡ some 0 ∷ some 1 ∷ some 0 ∷ some 0 ∷ [])
     × (falling (priorities (playedAll twoVoices bell (ringing (3 ∷ 5 ∷ 5 ∷ 7 ∷ [])))) ≡ 7 ∷ 5 ∷ [])
-unfolding opened fresh banked bankOf holding played playedAll allocated lowestPriority firstFree firstLowest firstWhere noneBelow orElse requestStart foundIn lentBank decided halving countFrom entryAt fieldsAt kindOf entryStart payloadGiven startAt startedEntry startedVoice triggeredVoice silentVoice audible activeSource active triggered beganDecay startedTone only falling inserted
+unfolding opened fresh banked bankOf played playedAll allocated lowestPriority firstFree firstLowest firstWhere noneBelow orElse requestStart foundIn lentBank decided halving countFrom entryAt fieldsAt kindOf entryStart payloadGiven startAt startedEntry startedVoice triggeredVoice silentVoice audible activeSource active triggered beganDecay startedTone only falling inserted
 requests = (refl, refl)
 
 pub holds : Examples

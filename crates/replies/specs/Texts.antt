@@ -1,13 +1,11 @@
 -- The text of each reply. Assumes nothing.
 use Prim.Native.Nat.{ℕ}
 use mathlib.Core.List.{List, [], _++_}
-use Rattle.error.specs.Numbers.{numberOf}
+use Rattle.error.specs.Told.{numberIn}
 use Rattle.tier.specs.Kinds.{byteOf}
 use Rattle.bank.specs.Banks.{payloadGiven, payloadPart}
 use Rattle.bank.specs.declared.BankSet.{BankSet}
 use Rattle.bank.specs.declared.EffectEntry.{EffectEntry}
-use Rattle.bank.specs.declared.PayloadRead.{PayloadRead}
-use Rattle.bank.specs.declared.PayloadRead.the-variants as P
 use Rattle.hex.specs.Hex.{wideAt, longAt, hexOf, newline}
 use Rattle.cells.specs.Cells.{byteText, numberedText}
 use Rattle.mixer.specs.declared.Mixer.{Mixer}
@@ -32,14 +30,10 @@ entryText e =
     ++ hexOf 8 (e .len)
     ++ newline
 
-abbrev pub payloadNumber : PayloadRead → ℕ
-payloadNumber P.Whole = 0
-payloadNumber (P.Refused e) = numberOf e
-
 -- "offset (4), length (2) | number, then the part's bytes"
 unfoldable pub payloadText : BankSet → List ℕ → List ℕ → List ℕ
 payloadText bank l bytes =
-    numberedText 2 (payloadNumber (payloadGiven bank bytes (longAt l 1) (wideAt l 5)))
+    numberedText 2 (numberIn (payloadGiven bank bytes (longAt l 1) (wideAt l 5)))
     byteText
     (payloadPart bank bytes (longAt l 1) (wideAt l 5))
 

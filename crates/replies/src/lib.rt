@@ -1,8 +1,10 @@
 // Each reply as text, from the front of the buffer on.
 ghost use mathlib.Core.Path.{_≡_};
+ghost use Rattle.bank.specs.Banks.{toldPayload};
+ghost use Rattle.error.specs.Told.{numberIn};
 ghost use Rattle.engine.specs.Engines.{ValidEngine};
 ghost use Rattle.hex.specs.Hex.{Wrote};
-ghost use Rattle.replies.specs.Texts.{entryText, payloadNumber, payloadText, twoText, replyText};
+ghost use Rattle.replies.specs.Texts.{entryText, payloadText, twoText, replyText};
 use bank::EffectEntry;
 use bank::PayloadRead;
 use calls::Reply;
@@ -39,7 +41,7 @@ fn put_entry(out: &mut [u8; 262144], e: EffectEntry) -> usize
 }
 
 fn payload_number(p: PayloadRead) -> u64
-    ensures { λ r. ⌜ r ≡ payloadNumber p ⌝ }
+    ensures { λ r. ⌜ r ≡ numberIn (toldPayload p) ⌝ }
 {
     match p {
         PayloadRead::Whole => 0,

@@ -9,19 +9,12 @@ use lib.Ieee.{binary32, ofBits, toBits}
 use mir.Syntax.{w8, w16, w32}
 use mir.Val.{toZ, ofZ}
 use Rattle.laws.specs.Whole.{neg, heldTo}
-use Rattle.error.specs.Numbers.{numberOf}
-use Rattle.error.specs.declared.AudioError.{AudioError}
-use Rattle.error.specs.declared.AudioError.the-variants as E
+use Rattle.error.specs.Told.{Told, value, refused, andThen}
 use Rattle.fixed.specs.Fixed.{increment, indexOf, fractionOf, sine, toward, gained, panGains}
 use Rattle.fixed.specs.Decibels.{gainOfDb, dbOfGain}
 use Rattle.output.specs.Levels.{limitedBus, raised}
 use Rattle.output.specs.Duty.{duty, periodRead}
-use Rattle.output.specs.declared.Limited.{Limited}
-use Rattle.output.specs.declared.Limited.the-variants as L
-use Rattle.output.specs.declared.Limited.the-variants.{Sample}
-use Rattle.output.specs.declared.PeriodRead.{PeriodRead}
-use Rattle.output.specs.declared.PeriodRead.the-variants as P
-use Rattle.output.specs.declared.PeriodRead.the-variants.{Accepted}
+use Rattle.output.specs.declared.Period.{Period}
 use Rattle.config.specs.Config.{fadeStep}
 use Rattle.tier.specs.Kinds.{kindOf, byteOf}
 use Rattle.tier.specs.declared.KindRead.{KindRead}
@@ -38,11 +31,9 @@ abbrev pub sumAt : List ℕ → ℕ → ℤ
 sumAt l k = toZ w32 (longAt l k)
 
 -- a number of 2 digits, then a value in so many: 00 and the value, or the refusal's and 0
-abbrev pub accepted : ℕ → ℕ → Reply
-accepted digits value = Word value (2 + digits)
-
-abbrev pub refused : ℕ → AudioError → Reply
-refused digits e = Word (numberOf e * 16 ^ digits) (2 + digits)
+abbrev pub numbered : ℕ → Told ℕ → Reply
+numbered digits (value n) = Word n (2 + digits)
+numbered digits (refused n) = Word (n * 16 ^ digits) (2 + digits)
 
 -- 40, gain: "sample i8 (1), gain (1) | 2 digits"
 unfoldable pub gainReply : List ℕ → Reply
@@ -53,9 +44,8 @@ unfoldable pub lerpReply : List ℕ → Reply
 lerpReply l = Word (ofZ w8 (toward (sampleAt l 1) (sampleAt l 2) (byteAt l 3))) 2
 
 -- 42, bus limiter: "sum i32 (4) | number, then 2 digits"
-abbrev pub limitedAnswer : Limited → Reply
-limitedAnswer (Sample s) = accepted 2 (ofZ w8 s)
-limitedAnswer (L.Refused e) = refused 2 e
+abbrev pub limitedAnswer : Told ℤ → Reply
+limitedAnswer t = numbered 2 (andThen t (λ s. value (ofZ w8 s)))
 
 unfoldable pub limiterReply : List ℕ → Reply
 limiterReply l = limitedAnswer (limitedBus (sumAt l 1))
@@ -73,9 +63,8 @@ unfoldable pub sineReply : List ℕ → Reply
 sineReply l = Word (ofZ w8 (sine (byteAt l 1))) 2
 
 -- 46, duty of a sample: "sample i8 (1), period (2) | number, then 4 digits"
-abbrev pub dutyAnswer : ℤ → PeriodRead → Reply
-dutyAnswer s (Accepted p) = accepted 4 (duty s (p .counts))
-dutyAnswer s (P.Refused e) = refused 4 e
+abbrev pub dutyAnswer : ℤ → Told Period → Reply
+dutyAnswer s t = numbered 4 (andThen t (λ p. value (duty s (p .counts))))
 
 unfoldable pub dutyReply : List ℕ → Reply
 dutyReply l = dutyAnswer (sampleAt l 1) (periodRead (wideAt l 2))
@@ -106,8 +95,8 @@ clampReply l = Word (ofZ w8 (heldTo (neg 128) (pos 127) (sumAt l 1))) 2
 
 -- 55, kind byte: "kind (1) | number (9 above 5), then the kind's byte (00 where refused)"
 abbrev pub kindAnswer : KindRead → Reply
-kindAnswer (Kind k) = accepted 2 (byteOf k)
-kindAnswer Unknown = refused 2 E.InvalidEffectKind
+kindAnswer (Kind k) = numbered 2 (value (byteOf k))
+kindAnswer Unknown = numbered 2 (refused 9)
 
 unfoldable pub kindReply : List ℕ → Reply
 kindReply l = kindAnswer (kindOf (byteAt l 1))

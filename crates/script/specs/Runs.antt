@@ -4,16 +4,13 @@ use mathlib.Core.List.{List, [], _++_}
 use lib.ListN.{length}
 use mir.Syntax.{w32}
 use mir.Val.{ofZ}
-use Rattle.error.specs.Numbers.{numberOf}
+use Rattle.error.specs.Told.{Told, value, refused}
 use Rattle.envelope.specs.Alone.{opened, triggeredEnvelope, releasedEnvelope, tickedEnvelope}
 use Rattle.envelope.specs.declared.Envelope.{Envelope}
-use Rattle.envelope.specs.declared.Opened.{Opened}
-use Rattle.envelope.specs.declared.Opened.the-variants as O
 use Rattle.output.specs.Shapers.{fresh2ndOrder}
 use Rattle.output.specs.Duty.{periodRead, mapped}
 use Rattle.output.specs.declared.Mapped.{Mapped}
-use Rattle.output.specs.declared.PeriodRead.{PeriodRead}
-use Rattle.output.specs.declared.PeriodRead.the-variants as P
+use Rattle.output.specs.declared.Period.{Period}
 use Rattle.output.specs.declared.PwmMapper.{PwmMapper}
 use Rattle.hex.specs.Hex.{byteAt, wideAt, longAt, hexOf, newline}
 use Rattle.fields.specs.Read.{specAt, modeOf}
@@ -35,7 +32,7 @@ abbrev pub numberLine : ℕ → List ℕ
 numberLine n = hexOf 2 n ++ newline
 
 -- E, then the rate (4)
-abbrev pub openedAt : List ℕ → Opened
+abbrev pub openedAt : List ℕ → Told Envelope
 openedAt l = opened (specAt l 1) (longAt l 8)
 
 abbrev pub levelText : Envelope → List ℕ
@@ -47,18 +44,18 @@ letGo held e = releasedEnvelope (stepped tickedEnvelope held (triggeredEnvelope 
 
 -- 48, envelope alone: "ticks before release (2), ticks after (2) | number; if 00, a second line with the levels after each
 -- tick, 2 digits each, .. the release standing between"
-abbrev pub levelsOf : ℕ → ℕ → Opened → List ℕ
-levelsOf held left (O.Refused e) = numberLine (numberOf e)
-levelsOf held left (O.Envelope e) =
+abbrev pub levelsOf : ℕ → ℕ → Told Envelope → List ℕ
+levelsOf held left (refused n) = numberLine n
+levelsOf held left (value e) =
     numberLine 0 ++ texts tickedEnvelope levelText held (triggeredEnvelope e) ++ texts tickedEnvelope levelText left (letGo held e) ++ newline
 
 unfoldable pub levelsText : List ℕ → List ℕ
 levelsText l = levelsOf (wideAt l 12) (wideAt l 14) (openedAt l)
 
 -- 58, envelope state: "number; if 00, a second line: the state after trigger, the ticks, release and the ticks after"
-abbrev pub stateOf : ℕ → ℕ → Opened → List ℕ
-stateOf held left (O.Refused e) = numberLine (numberOf e)
-stateOf held left (O.Envelope e) = numberLine 0 ++ adsrText (stepped tickedEnvelope left (letGo held e) .adsr) ++ newline
+abbrev pub stateOf : ℕ → ℕ → Told Envelope → List ℕ
+stateOf held left (refused n) = numberLine n
+stateOf held left (value e) = numberLine 0 ++ adsrText (stepped tickedEnvelope left (letGo held e) .adsr) ++ newline
 
 unfoldable pub stateText : List ℕ → List ℕ
 stateText l = stateOf (wideAt l 12) (wideAt l 14) (openedAt l)
@@ -91,9 +88,9 @@ mapperLine m =
     ++ newline
 
 -- 57, duty mapper: "number (period below 2 is 3); if 00, a second line: each sample's duty (4 digits), then .."
-abbrev pub dutiesOf : List ℕ → ℕ → PeriodRead → List ℕ
-dutiesOf l n (P.Refused e) = numberLine (numberOf e)
-dutiesOf l n (P.Accepted p) =
+abbrev pub dutiesOf : List ℕ → ℕ → Told Period → List ℕ
+dutiesOf l n (refused m) = numberLine m
+dutiesOf l n (value p) =
     let step = mapStep l (p .counts) in
     numberLine 0 ++ texts step dutyText n (firstAt l) ++ mapperLine (stepped step n (firstAt l) .1 .mapper)
 

@@ -2,14 +2,13 @@
 ghost use mathlib.Core.Path.{_≡_};
 ghost use Prim.Native.Nat.{_+_, _-_, _*_, _/_, _≤_};
 ghost use lib.ListN.{length};
-ghost use Rattle.envelope.specs.Alone.{ValidEnvelope, OpenedAs, tickedEnvelope};
-ghost use Rattle.envelope.specs.declared.Opened.the-variants as O;
-ghost use Rattle.output.specs.declared.PeriodRead.the-variants as P;
+ghost use Rattle.envelope.specs.Alone.{ValidEnvelope, toldOpened, tickedEnvelope};
+ghost use Rattle.error.specs.Told.{value, Answered};
 ghost use Rattle.output.specs.Duty.{ValidPeriod, ValidMapper, ValidMapped};
 ghost use Rattle.laws.specs.Made.{Made};
 ghost use Rattle.hex.specs.Hex.{wideAt, longAt, Laid, Wrote};
 ghost use Rattle.fields.specs.Read.{specAt};
-ghost use Rattle.script.specs.Runs.{stepped, texts, levelText, levelsOf, levelsText, stateOf, stateText, mapperAt, mapStep, dutyText, mapperLine, dutiesOf, dutiesText};
+ghost use Rattle.script.specs.Runs.{stepped, texts, openedAt, levelText, levelsOf, levelsText, stateOf, stateText, mapperAt, mapStep, dutyText, mapperLine, dutiesOf, dutiesText};
 use envelope::Envelope;
 use envelope::Opened;
 use fields::mode_of;
@@ -36,7 +35,7 @@ struct Ticked {
 }
 
 fn open_at(l: &[u8]) -> Opened
-    ensures { λ r. ⌜ OpenedAs (specAt (now (l .entry)) 1) (longAt (now (l .entry)) 8) r ⌝ }
+    ensures { λ r. ⌜ Answered toldOpened ValidEnvelope (openedAt (now (l .entry))) r ⌝ }
 {
     let spec = spec_at(l, 1);
     Envelope::open(spec, long_at(l, 8))
@@ -62,7 +61,7 @@ fn ticks(out: &mut [u8; 262144], at: usize, first: Envelope, count: u16) -> Tick
 
 fn run_levels(l: &[u8], e: Envelope, out: &mut [u8; 262144]) -> usize
     requires { ⌜ ValidEnvelope e ⌝ }
-    ensures { λ r. ⌜ Wrote (now (out .entry)) 0 (levelsOf (wideAt (now (l .entry)) 12) (wideAt (now (l .entry)) 14) (O.Envelope e)) (now (out .exit)) r ⌝ }
+    ensures { λ r. ⌜ Wrote (now (out .entry)) 0 (levelsOf (wideAt (now (l .entry)) 12) (wideAt (now (l .entry)) 14) (value e)) (now (out .exit)) r ⌝ }
 {
     let n = put_line(out, 0, 2);
     let held = ticks(out, n, e.trigger(), wide_at(l, 12));
@@ -96,7 +95,7 @@ fn ticked_by(first: Envelope, count: u16) -> Envelope
 
 fn run_state(l: &[u8], e: Envelope, out: &mut [u8; 262144]) -> usize
     requires { ⌜ ValidEnvelope e ⌝ }
-    ensures { λ r. ⌜ Wrote (now (out .entry)) 0 (stateOf (wideAt (now (l .entry)) 12) (wideAt (now (l .entry)) 14) (O.Envelope e)) (now (out .exit)) r ⌝ }
+    ensures { λ r. ⌜ Wrote (now (out .entry)) 0 (stateOf (wideAt (now (l .entry)) 12) (wideAt (now (l .entry)) 14) (value e)) (now (out .exit)) r ⌝ }
 {
     let n = put_line(out, 0, 2);
     let held = ticked_by(e.trigger(), wide_at(l, 12));
@@ -174,7 +173,7 @@ fn put_mapper(out: &mut [u8; 262144], at: usize, m: PwmMapper) -> usize
 
 fn run_duties(l: &[u8], count: usize, period: Period, out: &mut [u8; 262144]) -> usize
     requires { ⌜ ValidPeriod period × (count ≤ 4096) ⌝ }
-    ensures { λ r. ⌜ Wrote (now (out .entry)) 0 (dutiesOf (now (l .entry)) count (P.Accepted period)) (now (out .exit)) r ⌝ }
+    ensures { λ r. ⌜ Wrote (now (out .entry)) 0 (dutiesOf (now (l .entry)) count (value period)) (now (out .exit)) r ⌝ }
 {
     put_line(out, 0, 2);
     let first = Mapped {

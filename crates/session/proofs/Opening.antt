@@ -3,7 +3,7 @@ use mathlib.Core.Path.{_≡_}
 use mathlib.Core.Bool.{true, false}
 use mathlib.Core.List.{List}
 use Prim.Native.Nat.{ℕ}
-use Rattle.mixer.specs.Mixers.{opened}
+use Rattle.mixer.specs.Mixers.{opened, toldOutcome}
 use Rattle.engine.specs.Engines.{changedBox}
 use Rattle.engine.specs.declared.EngineChanged.{EngineChanged}
 use Rattle.hex.specs.Hex.{byteAt}
@@ -18,6 +18,6 @@ pub not-opens : (s : Session) (l : List ℕ) → opens l ≡ false → openAnswe
 unfolding openAnswer
 not-opens s l e = rw e
 
-pub opens-as : (s : Session) (l : List ℕ) {r : EngineChanged} → opens l ≡ true → r ≡ asked l → openAnswer s l ≡ openedAs s (r .outcome) (r .engine)
+pub opens-as : (s : Session) (l : List ℕ) {r : EngineChanged} → opens l ≡ true → r ≡ asked l → openAnswer s l ≡ openedAs s (toldOutcome (r .outcome)) (r .engine)
 unfolding openAnswer
 opens-as s l e k = rw (e, k)

@@ -5,13 +5,11 @@ use mathlib.Core.Bool.{Bool, true, false, cond, _&&_, _||_}
 use mathlib.Core.List.{List, [], _∷_, _++_}
 use lib.Dec.{leb, eqb}
 use lib.ListN.{length, drop}
-use Rattle.error.specs.Numbers.{numberOf}
+use Rattle.error.specs.Told as T
 use Rattle.laws.specs.Made.{Made}
 use Rattle.config.specs.declared.AudioConfig.{AudioConfig}
 use Rattle.output.specs.declared.DutyMode.the-variants as D
-use Rattle.mixer.specs.Mixers.{opened}
-use Rattle.mixer.specs.declared.Outcome.{Outcome}
-use Rattle.mixer.specs.declared.Outcome.the-variants as O
+use Rattle.mixer.specs.Mixers.{opened, toldOutcome}
 use Rattle.mixer.specs.declared.VoiceStealingPolicy.{VoiceStealingPolicy}
 use Rattle.mixer.specs.declared.VoiceStealingPolicy.the-variants as P
 use Rattle.engine.specs.Engines.{ValidEngine, boxed, changedBox}
@@ -70,14 +68,14 @@ abbrev pub opens : List ℕ → Bool
 opens l = sizedAs 10 l && (leb (byteAt l 8) 2 && leb (byteAt l 10) 1)
 
 -- "A second 10 that is accepted replaces the engine; one that is refused leaves the old one. The lent bytes stay over both"
-abbrev pub openedAs : Session → Outcome → AudioEngine → Answer
-openedAs s O.Done e = record { text = hexOf 2 0 ++ newline; more = true; session = record { «is_open» = true; lent = s .lent; engine = e } }
-openedAs s (O.Refused x) e = record { text = hexOf 2 (numberOf x) ++ newline; more = true; session = s }
+abbrev pub openedAs : Session → T.Told (Unit {0}) → AudioEngine → Answer
+openedAs s (T.value _) e = record { text = hexOf 2 0 ++ newline; more = true; session = record { «is_open» = true; lent = s .lent; engine = e } }
+openedAs s (T.refused n) e = record { text = hexOf 2 n ++ newline; more = true; session = s }
 
 unfoldable pub openAnswer : Session → List ℕ → Answer
 openAnswer s l =
     let c = changedBox (opened (byteAt l 1) (configAt l) (policyOf (byteAt l 10))) in
-    cond (opens l) (openedAs s (c .outcome) (c .engine)) (badLine s)
+    cond (opens l) (openedAs s (toldOutcome (c .outcome)) (c .engine)) (badLine s)
 
 -- n bytes of a line, from byte k on
 unfoldable pub bytesAt : List ℕ → ℕ → ℕ → List ℕ

@@ -3,6 +3,9 @@ use borrow.Author.Needs.{needs}
 use Rattle.calls.proofs.outcome_reply.Statement.{statement}
 use Rattle.calls.proofs.outcome_reply.Tie as tie
 
+returns : tie.Need-returns
+returns c = rw (c .enum-told .given .1)
+
 returns-2 : tie.Need-returns-2
 returns-2 c = rw (c .before .before .o .given .1, c .number .ensures)
 
@@ -14,5 +17,5 @@ outcome-reply-spec =
     (λ c. search needs)
     (λ c κs. search needs)
     (λ c. search needs)
-    (λ c. search needs)
+    returns
     returns-2)

@@ -7,7 +7,7 @@ use Rattle.calls.proofs.search_call.Tie as tie
 returns : tie.Need-returns
 unfolding searchCall
 returns c =
-    record { same = cc; valid = c .before .before .before .before .before .pre }
+    record { same = rw (c .entry-reply .ensures, c .before .find-by-id .ensures, c .before .before .wide-at .ensures); valid = c .before .before .before .before .before .pre }
 
 pub search-call-spec : {M : Type 1} → statement M
 search-call-spec =

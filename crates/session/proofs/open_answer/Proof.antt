@@ -2,12 +2,13 @@
 use borrow.Author.Needs.{needs}
 use borrow.Author.Tests.{not-true, not-false}
 use mathlib.Core.Path.{_≡_, refl, sym, _∙_}
+use Rattle.mixer.specs.Mixers.{toldOutcome}
 use Rattle.session.specs.Sessions.{openedAs, openAnswer}
 use Rattle.session.proofs.Opening.{not-opens, opens-as}
 use Rattle.session.proofs.open_answer.Statement.{statement}
 use Rattle.session.proofs.open_answer.Tie as tie
 
-known : (c : tie.After-open) → let a = c .before .before .before .before .before .before .before .before .args in openAnswer (a .s) (a .l .now) ≡ openedAs (a .s) (c .«open» .result .outcome) (c .«open» .result .engine)
+known : (c : tie.After-open) → let a = c .before .before .before .before .before .before .before .before .args in openAnswer (a .s) (a .l .now) ≡ openedAs (a .s) (toldOutcome (c .«open» .result .outcome)) (c .«open» .result .engine)
 known c =
     let n = c .before in
     let p = n .before in

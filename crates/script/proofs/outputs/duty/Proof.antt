@@ -2,12 +2,13 @@
 use borrow.Author.Needs.{needs}
 use mathlib.Core.Path.{_≡_, sym, _∙_}
 use mir.Syntax.{w8}
+use Rattle.output.specs.Duty.{toldPeriod}
 use Rattle.script.specs.Replies.{dutyReply, dutyAnswer}
 use Rattle.hex.proofs.Bits.{back}
 use Rattle.script.proofs.outputs.duty.Statement.{statement}
 use Rattle.script.proofs.outputs.duty.Tie as tie
 
-known : (c : tie.After-new) → dutyReply (c .before .before .before .before .before .args .l .now) ≡ dutyAnswer (c .before .before .as-i8 .result) (c .new .result)
+known : (c : tie.After-new) → dutyReply (c .before .before .before .before .before .args .l .now) ≡ dutyAnswer (c .before .before .as-i8 .result) (toldPeriod (c .new .result))
 unfolding dutyReply
 known c = let m = c .new .ensures .same in cc
 

@@ -2,12 +2,13 @@
 use borrow.Author.Needs.{needs}
 use mathlib.Core.Path.{_≡_, sym, _∙_}
 use mir.Syntax.{w8, w32}
+use Rattle.output.specs.Levels.{toldLimit}
 use Rattle.script.specs.Replies.{limiterReply, limitedAnswer}
 use Rattle.hex.proofs.Bits.{back}
 use Rattle.script.proofs.outputs.limiter.Statement.{statement}
 use Rattle.script.proofs.outputs.limiter.Tie as tie
 
-known : (c : tie.After-limit-bus) → limiterReply (c .before .before .before .before .args .l .now) ≡ limitedAnswer (c .limit-bus .result)
+known : (c : tie.After-limit-bus) → limiterReply (c .before .before .before .before .args .l .now) ≡ limitedAnswer (toldLimit (c .limit-bus .result))
 unfolding limiterReply
 known c = let s = c .before .signed32 in cc (back w32 (s .result) (s .ok))
 

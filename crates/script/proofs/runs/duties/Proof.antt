@@ -2,11 +2,12 @@
 use borrow.Author.Needs.{needs}
 use mathlib.Core.Path.{_≡_, sym}
 use native.Mathlib.Omega.{arith}
+use Rattle.output.specs.Duty.{toldPeriod}
 use Rattle.script.specs.Runs.{dutiesOf, dutiesText}
 use Rattle.script.proofs.runs.duties.Statement.{statement}
 use Rattle.script.proofs.runs.duties.Tie as tie
 
-known : (c : tie.After-new) → let l = c .before .before .before .before .args .l .now in dutiesText l ≡ dutiesOf l (c .before .before .sample-count .result) (c .new .result)
+known : (c : tie.After-new) → let l = c .before .before .before .before .args .l .now in dutiesText l ≡ dutiesOf l (c .before .before .sample-count .result) (toldPeriod (c .new .result))
 unfolding dutiesText
 known c = rw (c .before .before .sample-count .ensures, c .new .ensures .same, c .before .wide-at .ensures)
 

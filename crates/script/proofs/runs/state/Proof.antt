@@ -1,12 +1,13 @@
 -- `script::runs::state` meets its contract: each variant is the definition's.
 use borrow.Author.Needs.{needs}
 use mathlib.Core.Path.{_≡_, sym}
+use Rattle.envelope.specs.Alone.{toldOpened}
 use Rattle.hex.specs.Hex.{wideAt}
 use Rattle.script.specs.Runs.{stateOf, stateText}
 use Rattle.script.proofs.runs.state.Statement.{statement}
 use Rattle.script.proofs.runs.state.Tie as tie
 
-known : (c : tie.After-open-at) → let l = c .before .before .args .l .now in stateText l ≡ stateOf (wideAt l 12) (wideAt l 14) (c .open-at .result)
+known : (c : tie.After-open-at) → let l = c .before .before .args .l .now in stateText l ≡ stateOf (wideAt l 12) (wideAt l 14) (toldOpened (c .open-at .result))
 unfolding stateText
 known c = rw (c .open-at .ensures .same)
 

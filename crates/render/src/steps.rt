@@ -2,6 +2,7 @@
 ghost use mathlib.Core.Path.{_≡_};
 ghost use Prim.Native.Nat.{_≤_};
 ghost use lib.ListN.{length};
+ghost use Rattle.session.specs.Sessions.{ValidSession};
 ghost use Rattle.render.specs.Runs.{ValidRun};
 use crate::file::SoundFile;
 use crate::file::add;
@@ -10,6 +11,7 @@ use crate::problems;
 use libc::STDOUT_FILENO;
 use session::Session;
 use std::num::wrapping_add_u64;
+use texts::Clock;
 use texts::Text;
 
 // How much of a line is kept, how many lines there were, and whether the run goes on.
@@ -49,6 +51,12 @@ pub fn print(t: Text)
     io::write_all(STDOUT_FILENO, &bytes[..t.len]);
 }
 
+fn told(l: &[u8], answer: &[u8], before: Session, c: Clock)
+    requires { ⌜ ValidSession before ⌝ }
+{
+    print(account::tell(l, answer, before.engine(), c));
+}
+
 // Answers a line and tells it in the account. A line that is no record ends the run.
 fn answered(r: Run, l: &[u8], lent: &mut [u8; 4096], out: &mut [u8; 262144]) -> Run
     requires { ⌜ ValidRun r ⌝ }
@@ -62,7 +70,7 @@ fn answered(r: Run, l: &[u8], lent: &mut [u8; 4096], out: &mut [u8; 262144]) -> 
         problems::bad_line(p.number);
         return stopped(r);
     }
-    print(account::tell(l, &*out, before.engine(), f.clock));
+    told(l, &*out, before, f.clock);
     let after = a.session;
     Run {
         session: after,

@@ -10,23 +10,28 @@ use Rattle.sounds.proofs.sound.Tie as tie
 
 put-requires : tie.Need-put-requires
 put-requires c κs =
-    let f = c .before .before .before .before in
-    let s = f .before .before in
-    let few : f .frames .result ≤ 2048 = omega (arith, f .frames .ensures, few-frames (s .args .s .«is_open») (s .args .line .now)) in
-    (s .pre .inside, search needs)
+    let e = c .before .before .before in
+    let f = e .before in
+    let o = f .before in
+    let s = o .before .before in
+    let few : f .frames .result ≤ 2048 = omega (arith, f .frames .ensures, few-frames (o .is-open .result) (s .args .line .now)) in
+    (rw (e .engine .ensures) (s .pre .inside), search needs)
 
 returns : tie.Need-returns
 unfolding soundOf
 returns c =
     let i = c .before .before in
     let b = i .before in
-    let f = b .before .before in
-    rw (sym (b .byte-at .ensures), sym (i .is-stereo .ensures), sym (f .frames .ensures)) (c .put .ensures)
+    let e = b .before in
+    let f = e .before in
+    rw (sym (b .byte-at .ensures), sym (i .is-stereo .ensures), sym (e .engine .ensures), sym (f .before .is-open .ensures), sym (f .frames .ensures)) (c .put .ensures)
 
 pub sound-spec : {M : Type 1} → statement M
 sound-spec =
     tie.close
     (tie.spec
+    (λ c κs. search needs)
+    (λ c κs. search needs)
     (λ c κs. search needs)
     (λ c κs. search needs)
     (λ c κs. search needs)

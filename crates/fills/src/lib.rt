@@ -1,6 +1,6 @@
 // The records that fill a buffer: each makes its call and prints every cell, from the front of the answer on.
 ghost use mathlib.Core.Path.{_≡_};
-ghost use Prim.Native.Nat.{_≤_};
+ghost use Prim.Native.Nat.{_≤_, min};
 ghost use lib.ListN.{replicate};
 ghost use Rattle.engine.specs.Engines.{ValidEngine};
 ghost use Rattle.output.specs.Levels.{raised};
@@ -114,7 +114,7 @@ fn u16s(e: AudioEngine, level: Level, n: usize, out: &mut [u8; 262144]) -> Shown
 }
 
 // By the code of the record, one of 20 to 2A.
-pub fn fill(code: u8, e: AudioEngine, n: usize, out: &mut [u8; 262144]) -> Shown
+fn fill_few(code: u8, e: AudioEngine, n: usize, out: &mut [u8; 262144]) -> Shown
     requires { ⌜ ValidEngine e ⌝ }
     requires { ⌜ n ≤ 2048 ⌝ }
     ensures { λ r. ⌜ Shows (fillFor code n (e .state)) (now (out .entry)) (now (out .exit)) r ⌝ }
@@ -132,4 +132,18 @@ pub fn fill(code: u8, e: AudioEngine, n: usize, out: &mut [u8; 262144]) -> Shown
         0x29 => i16s(e, Shape::Sides, n, out),
         _ => i8s(e, Shape::Sides, n, out),
     }
+}
+
+fn at_most_2048(n: usize) -> usize
+    ensures { λ r. ⌜ (r ≡ min n 2048) × (r ≤ 2048) ⌝ }
+{
+    if n < 2048 { n } else { 2048 }
+}
+
+// No record asks for more than 2,048 cells; of a larger number, so many are filled.
+pub fn fill(code: u8, e: AudioEngine, n: usize, out: &mut [u8; 262144]) -> Shown
+    requires { ⌜ ValidEngine e ⌝ }
+    ensures { λ r. ⌜ Shows (fillFor code (min n 2048) (e .state)) (now (out .entry)) (now (out .exit)) r ⌝ }
+{
+    fill_few(code, e, at_most_2048(n), out)
 }

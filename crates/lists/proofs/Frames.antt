@@ -5,8 +5,8 @@ use Prim.Native.Nat.{ℕ, zero, suc, _+_, _-_, _*_, _≤_, _<_}
 use native.Mathlib.Nat.{lt-irrefl}
 use native.Mathlib.Omega.{arith}
 use Rattle.laws.specs.Runs.{after, given}
-use Rattle.hex.specs.Hex.{Wrote}
-use Rattle.hex.proofs.Texts.{Left, left-start, left-turn, left-end}
+use Rattle.hex.specs.Hex.{Laid, Wrote}
+use Rattle.hex.proofs.Texts.{Left, left-start, left-turn, left-end, whole}
 
 module _ {S : Type 0} (step : S → S) (gives : S → List ℕ) where
   after-one : (n : ℕ) (s : S) → 0 < n → after step n s ≡ after step (n - 1) (step s)
@@ -28,17 +28,17 @@ module _ {S : Type 0} (step : S → S) (gives : S → List ℕ) where
   going-start out n s = record { laid = left-start out 0 (given step gives n s); same = refl }
 
   pub going-turn : {before now new : List ℕ} {n next place left : ℕ} {first s r : S} → 0 < left → r ≡ step s
-      → Going before n first now next left s → Wrote now next (gives s) new place → Going before n first new place (left - 1) r
+      → Going before n first now next left s → Laid now next (gives s) new place → Going before n first new place (left - 1) r
   going-turn {left = left} {s = s} h e g w =
       record {
         laid = rw e (left-turn (rw (given-one left s h) at (g .laid)) w);
         same = rw (e, ← after-one left s h) (g .same);
       }
 
-  pub going-end : {before now : List ℕ} {n next left : ℕ} {first s : S} → left ≤ 0 → next ≤ 262144
+  pub going-end : {before now : List ℕ} {n next left : ℕ} {first s : S} → left ≤ 0 → next < 262144
       → Going before n first now next left s → Wrote before 0 (given step gives n first) now next
   unfolding given
-  going-end {left = left} h m g = let z : left ≡ 0 = omega arith in left-end m (rw z at (g .laid))
+  going-end {left = left} h m g = let z : left ≡ 0 = omega arith in whole (left-end (rw z at (g .laid))) m
 
   pub going-same : {before now : List ℕ} {n next left : ℕ} {first s : S} → left ≤ 0
       → Going before n first now next left s → s ≡ after step n first

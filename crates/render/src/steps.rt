@@ -37,7 +37,7 @@ pub fn stopped(r: Run) -> Run
 pub fn rate_of(s: Session) -> u32
     ensures { λ r. ⌜ r ≡ s .engine .state .config .«sample_rate_hz» ⌝ }
 {
-    let e = s.engine;
+    let e = s.engine();
     let c = e.config();
     c.sample_rate_hz
 }
@@ -62,7 +62,7 @@ fn answered(r: Run, l: &[u8], lent: &mut [u8; 4096], out: &mut [u8; 262144]) -> 
         problems::bad_line(p.number);
         return stopped(r);
     }
-    print(account::tell(l, &*out, before.engine, f.clock));
+    print(account::tell(l, &*out, before.engine(), f.clock));
     let after = a.session;
     Run {
         session: after,

@@ -23,9 +23,9 @@ use replies::put_reply;
 
 // Whether an engine is open, how many bytes are lent, and the engine: one of no voices where none is open.
 pub struct Session {
-    pub is_open: bool,
-    pub lent: usize,
-    pub engine: AudioEngine,
+    is_open: bool,
+    lent: usize,
+    engine: AudioEngine,
 }
 
 // How many bytes the answer has, whether the run goes on, and the run after the line.
@@ -52,6 +52,18 @@ impl Session {
             lent: 0,
             engine,
         }
+    }
+
+    pub fn is_open(self) -> bool
+        ensures { λ r. ⌜ r ≡ self .«is_open» ⌝ }
+    {
+        self.is_open
+    }
+
+    pub fn engine(self) -> AudioEngine
+        ensures { λ r. ⌜ r ≡ self .engine ⌝ }
+    {
+        self.engine
     }
 }
 

@@ -82,7 +82,7 @@ pub fn sound(line: &[u8], s: Session, out: &mut [i16; 4096]) -> usize
     requires { ⌜ ValidSession s ⌝ }
     ensures { λ r. ⌜ Sounds (soundOf s (now (line .entry))) (now (out .entry)) (now (out .exit)) r ⌝ }
 {
-    let n = frames(line, s.is_open);
-    let e = s.engine;
+    let n = frames(line, s.is_open());
+    let e = s.engine();
     put(is_stereo(byte_at(line, 0)), n, e, out)
 }

@@ -5,6 +5,9 @@ use native.Mathlib.Omega.{arith}
 use mathlib.Core.List.{_++_}
 use lib.ListN.{length, take, drop}
 use Rattle.buffers.specs.Buffers.{toI16}
+use mir.Syntax.{w16}
+use mir.Val.{ofZ}
+use Rattle.hex.proofs.Texts.{length-hexOf}
 use Rattle.cells.specs.Cells.{i16Text}
 use Rattle.fills.specs.Fills.{blankI16}
 use Rattle.fills.proofs.Buffers.{Lent, lent-length, back-fits, back-length, shaped-shown}
@@ -34,15 +37,12 @@ printed c =
 slice-aggregate-put-i16s : tie.Need-slice-aggregate-put-i16s
 slice-aggregate-put-i16s c = sym (printed c)
 
-put-i16s-requires : tie.Need-put-i16s-requires
-put-i16s-requires c κs = omega (arith, printed c, c .before .before .before .before .before .before .before .pre .1)
-
 returns : tie.Need-returns
 returns c =
     let f = c .before .before .before .before .before in
     let b = f .before .before in
     let n = b .before .args .n in
-    shaped-shown i16Text toI16 (b .before .args .shape) n (f .fill-i16 .last .1 .1 .0) (drop n (b .blank-i16s .result)) (lent b) (f .fill-i16 .kept .1 .1 .0) (f .fill-i16 .ensures) (c .put-i16s .ensures)
+    shaped-shown i16Text 4 (λ x. length-hexOf 4 (ofZ w16 x)) (omega arith) toI16 (b .before .args .shape) n (f .fill-i16 .last .1 .1 .0) (drop n (b .blank-i16s .result)) (lent b) (f .fill-i16 .kept .1 .1 .0) (f .fill-i16 .ensures) (c .put-i16s .ensures)
 
 pub i16s-spec : {M : Type 1} → statement M
 i16s-spec =
@@ -54,5 +54,5 @@ i16s-spec =
     (λ c κs. search needs)
     array-share-prefix-cells
     slice-aggregate-put-i16s
-    put-i16s-requires
+    (λ c κs. tt)
     returns)

@@ -5,6 +5,9 @@ use native.Mathlib.Omega.{arith}
 use mathlib.Core.List.{_++_}
 use lib.ListN.{length, take, drop}
 use Rattle.buffers.specs.Buffers.{toI32}
+use mir.Syntax.{w32}
+use mir.Val.{ofZ}
+use Rattle.hex.proofs.Texts.{length-hexOf}
 use Rattle.cells.specs.Cells.{i32Text}
 use Rattle.fills.specs.Fills.{blankI32}
 use Rattle.fills.proofs.Buffers.{Lent, lent-length, back-fits, back-length, shaped-shown}
@@ -34,15 +37,12 @@ printed c =
 slice-aggregate-put-i32s : tie.Need-slice-aggregate-put-i32s
 slice-aggregate-put-i32s c = sym (printed c)
 
-put-i32s-requires : tie.Need-put-i32s-requires
-put-i32s-requires c κs = omega (arith, printed c, c .before .before .before .before .before .before .before .pre .1)
-
 returns : tie.Need-returns
 returns c =
     let f = c .before .before .before .before .before in
     let b = f .before .before in
     let n = b .before .args .n in
-    shaped-shown i32Text toI32 (b .before .args .shape) n (f .fill-i32 .last .1 .1 .0) (drop n (b .blank-i32s .result)) (lent b) (f .fill-i32 .kept .1 .1 .0) (f .fill-i32 .ensures) (c .put-i32s .ensures)
+    shaped-shown i32Text 8 (λ x. length-hexOf 8 (ofZ w32 x)) (omega arith) toI32 (b .before .args .shape) n (f .fill-i32 .last .1 .1 .0) (drop n (b .blank-i32s .result)) (lent b) (f .fill-i32 .kept .1 .1 .0) (f .fill-i32 .ensures) (c .put-i32s .ensures)
 
 pub i32s-spec : {M : Type 1} → statement M
 i32s-spec =
@@ -54,5 +54,5 @@ i32s-spec =
     (λ c κs. search needs)
     array-share-prefix-cells
     slice-aggregate-put-i32s
-    put-i32s-requires
+    (λ c κs. tt)
     returns)

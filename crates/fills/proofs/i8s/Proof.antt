@@ -5,6 +5,9 @@ use native.Mathlib.Omega.{arith}
 use mathlib.Core.List.{_++_}
 use lib.ListN.{length, take, drop}
 use Rattle.buffers.specs.Buffers.{toI8}
+use mir.Syntax.{w8}
+use mir.Val.{ofZ}
+use Rattle.hex.proofs.Texts.{length-hexOf}
 use Rattle.cells.specs.Cells.{i8Text}
 use Rattle.fills.specs.Fills.{blankI8}
 use Rattle.fills.proofs.Buffers.{Lent, lent-length, back-fits, back-length, shaped-shown}
@@ -34,15 +37,12 @@ printed c =
 slice-aggregate-put-i8s : tie.Need-slice-aggregate-put-i8s
 slice-aggregate-put-i8s c = sym (printed c)
 
-put-i8s-requires : tie.Need-put-i8s-requires
-put-i8s-requires c κs = omega (arith, printed c, c .before .before .before .before .before .before .before .pre .1)
-
 returns : tie.Need-returns
 returns c =
     let f = c .before .before .before .before .before in
     let b = f .before .before in
     let n = b .before .args .n in
-    shaped-shown i8Text toI8 (b .before .args .shape) n (f .fill-i8 .last .1 .1 .0) (drop n (b .blank-i8s .result)) (lent b) (f .fill-i8 .kept .1 .1 .0) (f .fill-i8 .ensures) (c .put-i8s .ensures)
+    shaped-shown i8Text 2 (λ x. length-hexOf 2 (ofZ w8 x)) (omega arith) toI8 (b .before .args .shape) n (f .fill-i8 .last .1 .1 .0) (drop n (b .blank-i8s .result)) (lent b) (f .fill-i8 .kept .1 .1 .0) (f .fill-i8 .ensures) (c .put-i8s .ensures)
 
 pub i8s-spec : {M : Type 1} → statement M
 i8s-spec =
@@ -54,5 +54,5 @@ i8s-spec =
     (λ c κs. search needs)
     array-share-prefix-cells
     slice-aggregate-put-i8s
-    put-i8s-requires
+    (λ c κs. tt)
     returns)

@@ -5,6 +5,7 @@ use native.Mathlib.Omega.{arith}
 use mathlib.Core.List.{_++_}
 use lib.ListN.{length, take, drop}
 use Rattle.buffers.specs.Shapes.{levelStep, levelOf}
+use Rattle.hex.proofs.Texts.{length-hexOf}
 use Rattle.cells.specs.Cells.{wideText}
 use Rattle.fills.specs.Fills.{blankU16}
 use Rattle.fills.proofs.Buffers.{Lent, lent-length, back-fits, back-length, singly-shown}
@@ -34,15 +35,12 @@ printed c =
 slice-aggregate-put-u16s : tie.Need-slice-aggregate-put-u16s
 slice-aggregate-put-u16s c = sym (printed c)
 
-put-u16s-requires : tie.Need-put-u16s-requires
-put-u16s-requires c κs = omega (arith, printed c, c .before .before .before .before .before .before .before .pre .1)
-
 returns : tie.Need-returns
 returns c =
     let f = c .before .before .before .before .before in
     let b = f .before .before in
     let n = b .before .args .n in
-    singly-shown wideText (levelStep (b .before .args .level)) (levelOf (b .before .args .level)) n (f .fill-u16 .last .1 .1 .0) (drop n (b .blank-u16s .result)) (lent b) (f .fill-u16 .kept .1 .1 .0) (f .fill-u16 .ensures) (c .put-u16s .ensures)
+    singly-shown wideText 4 (λ x. length-hexOf 4 x) (omega arith) (levelStep (b .before .args .level)) (levelOf (b .before .args .level)) n (f .fill-u16 .last .1 .1 .0) (drop n (b .blank-u16s .result)) (lent b) (f .fill-u16 .kept .1 .1 .0) (f .fill-u16 .ensures) (c .put-u16s .ensures)
 
 pub u16s-spec : {M : Type 1} → statement M
 u16s-spec =
@@ -54,5 +52,5 @@ u16s-spec =
     (λ c κs. search needs)
     array-share-prefix-cells
     slice-aggregate-put-u16s
-    put-u16s-requires
+    (λ c κs. tt)
     returns)

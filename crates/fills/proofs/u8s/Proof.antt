@@ -5,6 +5,7 @@ use native.Mathlib.Omega.{arith}
 use mathlib.Core.List.{_++_}
 use lib.ListN.{length, take, drop}
 use Rattle.output.specs.Levels.{raised}
+use Rattle.hex.proofs.Texts.{length-hexOf}
 use Rattle.cells.specs.Cells.{byteText}
 use Rattle.fills.specs.Fills.{blankU8}
 use Rattle.fills.proofs.Buffers.{Lent, lent-length, back-fits, back-length, shaped-shown}
@@ -34,15 +35,12 @@ printed c =
 slice-aggregate-put-u8s : tie.Need-slice-aggregate-put-u8s
 slice-aggregate-put-u8s c = sym (printed c)
 
-put-u8s-requires : tie.Need-put-u8s-requires
-put-u8s-requires c κs = omega (arith, printed c, c .before .before .before .before .before .before .before .pre .1)
-
 returns : tie.Need-returns
 returns c =
     let f = c .before .before .before .before .before in
     let b = f .before .before in
     let n = b .before .args .n in
-    shaped-shown byteText raised (b .before .args .shape) n (f .fill-u8 .last .1 .1 .0) (drop n (b .blank-u8s .result)) (lent b) (f .fill-u8 .kept .1 .1 .0) (f .fill-u8 .ensures) (c .put-u8s .ensures)
+    shaped-shown byteText 2 (λ x. length-hexOf 2 x) (omega arith) raised (b .before .args .shape) n (f .fill-u8 .last .1 .1 .0) (drop n (b .blank-u8s .result)) (lent b) (f .fill-u8 .kept .1 .1 .0) (f .fill-u8 .ensures) (c .put-u8s .ensures)
 
 pub u8s-spec : {M : Type 1} → statement M
 u8s-spec =
@@ -54,5 +52,5 @@ u8s-spec =
     (λ c κs. search needs)
     array-share-prefix-cells
     slice-aggregate-put-u8s
-    put-u8s-requires
+    (λ c κs. tt)
     returns)

@@ -1,7 +1,7 @@
 -- What is left of the run, from each turn on, is the run. The measure is the frames left. Assumes nothing.
 use borrow.Author.Needs.{needs}
-use mathlib.Core.Path.{_≡_, refl, ap}
-use Prim.Native.Nat.{_+_, _*_}
+use mathlib.Core.Path.{refl, ap}
+use Prim.Native.Nat.{_+_, _*_, _≤_}
 use native.Mathlib.Omega.{arith}
 use Rattle.hex.proofs.Texts.{shown, then}
 use Rattle.engine.specs.Engines.{ValidEngine}
@@ -13,7 +13,7 @@ use Rattle.lists.proofs.frames_answer.Tie as tie
 
 abbrev Inv-loop : tie.InvT-loop
 Inv-loop count out₀ engine₀ at₀ left₀ out engine at left =
-    Going next dutyLine out₀ count engine₀ out at left engine × ValidEngine engine × (at + 5 * left ≡ 5 * count)
+    Going next dutyLine out₀ count engine₀ out at left engine × ValidEngine engine × (at + 5 * left ≤ 5 * count)
 
 abbrev μ-loop : tie.MeasureT-loop
 μ-loop count out₀ engine₀ at₀ left₀ out engine at left = left
@@ -26,9 +26,9 @@ loop-again c =
     let v = t .before .before .loop .inv in
     let same = t .tick .ensures .same in (
       going-turn next dutyLine (t .before .loop-test .taken) (ap (λ (d : EngineDuty). d .engine) same) (v .0)
-          (then (shown 4 (ap (λ (d : EngineDuty). d .duty) same) (p .put .ensures .0)) (l .end-line .ensures)),
+          (then (shown 4 (ap (λ (d : EngineDuty). d .duty) same) (p .put .ensures .0)) (l .end-line .ensures .0)),
       t .tick .ensures .valid,
-      omega (arith, p .put .ensures .1, l .end-line .ensures .place),
+      omega (arith, p .put .ensures .1, l .end-line .ensures .1),
     )
 
 returns : tie.Need-returns Inv-loop μ-loop
@@ -50,8 +50,8 @@ frames-answer-spec =
     (λ c. (going-start next dutyLine _ _ _, c .pre, omega arith))
     (λ c κs. c .before .loop .inv .1)
     (λ c. search needs)
-    (λ c κs. omega arith)
-    (λ c κs. omega (arith, c .before .put .ensures .1))
+    (λ c κs. tt)
+    (λ c κs. tt)
     (λ c. omega arith)
     (λ c. omega arith)
     loop-again

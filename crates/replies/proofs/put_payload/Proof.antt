@@ -3,17 +3,12 @@ use borrow.Author.Needs.{needs}
 use mathlib.Core.Path.{ap}
 use native.Mathlib.Omega.{arith}
 use lib.ListN.{length}
+use Rattle.hex.proofs.Texts.{length-hexOf}
+use Rattle.cells.specs.Cells.{byteText}
+use Rattle.cells.proofs.Turns.{numbered-all}
 use Rattle.replies.proofs.Payload.{part-short, payload-laid}
 use Rattle.replies.proofs.put_payload.Statement.{statement}
 use Rattle.replies.proofs.put_payload.Tie as tie
-
-put-u8s-requires : tie.Need-put-u8s-requires
-put-u8s-requires c κs =
-    let p = c .before in
-    let w = p .before .before .before in
-    let a = w .before .before .before .before .args in
-    let part = part-short (a .e .state .bank) (a .bytes .now) (w .before .long-at .result) (w .wide-at .result) in
-    omega (arith, ap length (p .payload .ensures), part, w .wide-at .ok)
 
 returns : tie.Need-returns
 returns c =
@@ -21,7 +16,9 @@ returns c =
     let n = q .before in
     let w = n .before .before in
     let a = w .before .before .before .before .args in
-    payload-laid (a .e .state .bank) (a .l .now) (a .bytes .now) (w .before .long-at .ensures) (w .wide-at .ensures) (n .before .payload-number .ensures) (n .payload-number2 .ensures) (q .payload .ensures) (c .put-u8s .ensures)
+    let short = part-short (a .e .state .bank) (a .bytes .now) (w .before .long-at .result) (w .wide-at .result) in
+    let all = numbered-all byteText 2 (n .payload-number2 .result) 2 (λ x. length-hexOf 2 x) (q .payload .result .now) (omega (arith, ap length (q .payload .ensures), short, w .wide-at .ok)) (c .put-u8s .ensures) in
+    payload-laid (a .e .state .bank) (a .l .now) (a .bytes .now) (w .before .long-at .ensures) (w .wide-at .ensures) (n .before .payload-number .ensures) (n .payload-number2 .ensures) (q .payload .ensures) all
 
 pub put-payload-spec : {M : Type 1} → statement M
 put-payload-spec =
@@ -33,5 +30,5 @@ put-payload-spec =
     (λ c κs. search needs)
     (λ c κs. search needs)
     (λ c κs. search needs)
-    put-u8s-requires
+    (λ c κs. tt)
     returns)

@@ -1,6 +1,7 @@
 -- `replies::put_two` meets its contract: three texts, one after the other.
 use borrow.Author.Needs.{needs}
-use Rattle.hex.proofs.Texts.{then}
+use native.Mathlib.Omega.{arith}
+use Rattle.hex.proofs.Texts.{then, whole}
 use Rattle.replies.proofs.put_two.Statement.{statement}
 use Rattle.replies.proofs.put_two.Tie as tie
 
@@ -8,7 +9,8 @@ returns : tie.Need-returns
 returns c =
     let p2 = c .before .before in
     let p1 = p2 .before .before in
-    then (then (p1 .put .ensures .0) (p2 .put2 .ensures .0)) (c .end-line .ensures)
+    whole (then (then (p1 .put .ensures .0) (p2 .put2 .ensures .0)) (c .end-line .ensures .0))
+    (omega (arith, p1 .put .ensures .1, p2 .put2 .ensures .1, c .end-line .ensures .1))
 
 pub put-two-spec : {M : Type 1} → statement M
 put-two-spec =

@@ -1,6 +1,8 @@
 -- `session::fill_answer` meets its contract: what the fill promises, and the run with the engine after it.
 use borrow.Author.Needs.{needs}
 use mathlib.Core.Path.{sym, _∙_}
+use Prim.Native.Nat.{_≤_}
+use native.Mathlib.Nat.{min-eq-left}
 use native.Mathlib.Omega.{arith}
 use borrow.Author.Tests.{not-true, not-false}
 use Rattle.session.proofs.Calling.{fill-shut, fill-bad, fills-as, few-cells, filled-told}
@@ -20,14 +22,6 @@ returns-2 c =
     let a = o .before .before .before .args in
     rw (fill-bad (a .s) (a .l .now) (not-false _ (o .if1 .left)) (sym (t .before .fill-allowed .ensures) ∙ not-true _ (t .if2 .taken))) (c .bad2 .ensures)
 
-fill-requires : tie.Need-fill-requires
-fill-requires c κs =
-    let w = c .before in
-    let t = w .before .before .before in
-    let start = t .before .before .before .before .before in
-    let few = few-cells (start .args .l .now) (sym (t .before .fill-allowed .ensures) ∙ not-false _ (t .if2 .left)) in
-    (start .pre .inside, omega (arith, few, w .wide-at .ensures))
-
 returns-3 : tie.Need-returns-3
 returns-3 c =
     let f = c .before in
@@ -36,8 +30,10 @@ returns-3 c =
     let o = t .before .before in
     let start = o .before .before .before in
     let a = start .args in
-    rw (fills-as (a .s) (a .l .now) (not-false _ (o .if1 .left)) (sym (t .before .fill-allowed .ensures) ∙ not-false _ (t .if2 .left)) (w .before .byte-at .ensures) (w .wide-at .ensures))
-    (filled-told (a .s) (start .pre .short) (f .fill .ensures))
+    let allowed = sym (t .before .fill-allowed .ensures) ∙ not-false _ (t .if2 .left) in
+    let few : w .wide-at .result ≤ 2048 = omega (arith, few-cells (a .l .now) allowed, w .wide-at .ensures) in
+    rw (fills-as (a .s) (a .l .now) (not-false _ (o .if1 .left)) allowed (w .before .byte-at .ensures) (w .wide-at .ensures))
+    (filled-told (a .s) (start .pre .short) (rw (min-eq-left few) at (f .fill .ensures)))
 
 pub fill-answer-spec : {M : Type 1} → statement M
 fill-answer-spec =
@@ -51,5 +47,5 @@ fill-answer-spec =
     (λ c κs. search needs)
     (λ c κs. search needs)
     (λ c. search needs)
-    fill-requires
+    (λ c κs. search needs)
     returns-3)

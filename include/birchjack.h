@@ -56,8 +56,8 @@ uint8_t birchjack_limit(int32_t sum, int8_t *out);
 /* A sample's compare value in a period; 3 for a period below 2. */
 uint8_t birchjack_duty_of(int8_t sample, uint16_t period, uint16_t *out);
 
-/* What a fade gains with each frame, of 255; 2 for a rate above 65,537. */
-uint8_t birchjack_fade_step(uint16_t duration_ms, uint32_t sample_rate_hz, uint8_t *out);
+/* What a fade gains with each frame, of 255. The product duration_ms * sample_rate_hz is taken modulo 2^32. */
+uint8_t birchjack_fade_step(uint16_t duration_ms, uint32_t sample_rate_hz);
 
 /* ---- an envelope alone */
 

@@ -3,6 +3,7 @@ use Prim.Native.Nat.{ℕ, _<_}
 use mathlib.Core.Path.{_≡_, refl, ap}
 use native.Mathlib.Omega.{arith}
 use lib.ListN.{length, length-take}
+use Rattle.error.specs.Told.{Told, value, refused}
 use Rattle.ranking.proofs.Rule.{free-place, lowest-place}
 use mathlib.Core.List.{List}
 use mathlib.Core.Option.{Option, none, some, orElse}
@@ -12,26 +13,24 @@ use Rattle.voice.specs.declared.Voice.{Voice}
 use Rattle.mixer.specs.declared.Mixer.{Mixer}
 use Rattle.mixer.specs.declared.VoiceStealingPolicy.{VoiceStealingPolicy}
 use Rattle.mixer.specs.declared.VoiceStealingPolicy.the-variants as P
-use Rattle.allocate.specs.declared.Allocated.{Allocated}
-use Rattle.allocate.specs.declared.Allocated.the-variants as A
 use Rattle.mixer.specs.Mixers.{voicesOf}
 use Rattle.allocate.specs.Allocation.{priorityOf, placeOf, chosen, allocated}
 
 -- the other where there is none
-abbrev orPlace : Allocated → Allocated → Allocated
-orPlace (A.Voice i) other = A.Voice i
-orPlace A.None other = other
+abbrev orPlace : Told ℕ → Told ℕ → Told ℕ
+orPlace (value i) other = value i
+orPlace (refused n) other = other
 
-abbrev taken : VoiceStealingPolicy → List Voice → ℕ → Allocated
+abbrev taken : VoiceStealingPolicy → List Voice → ℕ → Told ℕ
 taken P.LowestPriorityOldest vs priority = placeOf (firstLowest priorityOf vs priority)
-taken P.FreeChannelOnly vs priority = A.None
+taken P.FreeChannelOnly vs priority = refused 5
 
 place-or : (a b : Option ℕ) → placeOf (orElse a b) ≡ orPlace (placeOf a) (placeOf b)
 unfolding orElse
 place-or none b = refl
 place-or (some i) b = refl
 
-or-none : (a : Option ℕ) → placeOf a ≡ orPlace (placeOf a) A.None
+or-none : (a : Option ℕ) → placeOf a ≡ orPlace (placeOf a) (refused 5)
 or-none none = refl
 or-none (some i) = refl
 
@@ -43,21 +42,21 @@ by-policy P.FreeChannelOnly vs priority = or-none (firstFree audible vs)
 
 -- what the first search finds, and then the policy's
 module _ (m : Mixer) (priority : ℕ) where
-  pub allocated-free : (i : ℕ) → placeOf (firstFree audible (voicesOf m)) ≡ A.Voice i → allocated m priority ≡ A.Voice i
+  pub allocated-free : (i : ℕ) → placeOf (firstFree audible (voicesOf m)) ≡ value i → allocated m priority ≡ value i
   unfolding allocated
   allocated-free i h = rw (by-policy (m .«stealing_policy») (voicesOf m) priority, h)
 
-  pub allocated-taken : placeOf (firstFree audible (voicesOf m)) ≡ A.None → m .«stealing_policy» ≡ P.LowestPriorityOldest
+  pub allocated-taken : placeOf (firstFree audible (voicesOf m)) ≡ refused 5 → m .«stealing_policy» ≡ P.LowestPriorityOldest
       → allocated m priority ≡ placeOf (firstLowest priorityOf (voicesOf m) priority)
   unfolding allocated
   allocated-taken h p = rw (by-policy (m .«stealing_policy») (voicesOf m) priority, h, p)
 
-  pub allocated-none : placeOf (firstFree audible (voicesOf m)) ≡ A.None → m .«stealing_policy» ≡ P.FreeChannelOnly → allocated m priority ≡ A.None
+  pub allocated-none : placeOf (firstFree audible (voicesOf m)) ≡ refused 5 → m .«stealing_policy» ≡ P.FreeChannelOnly → allocated m priority ≡ refused 5
   unfolding allocated
   allocated-none h p = rw (by-policy (m .«stealing_policy») (voicesOf m) priority, h, p)
 
 -- ---- a voice that is allocated is there
-place-some : (o : Option ℕ) (i : ℕ) → placeOf o ≡ A.Voice i → o ≡ some i
+place-some : (o : Option ℕ) (i : ℕ) → placeOf o ≡ value i → o ≡ some i
 place-some none i e = let z : _≡_ {A = ℕ} 0 1 = cc in absurd (omega arith)
 place-some (some j) i e = let h : j ≡ i = cc in ap some h
 
@@ -72,7 +71,7 @@ chosen-place P.LowestPriorityOldest vs priority i e =
     or-place (firstFree audible vs) (firstLowest priorityOf vs priority) (free-place audible vs) (lowest-place priorityOf priority vs) e
 chosen-place P.FreeChannelOnly vs priority i e = free-place audible vs i e
 
-pub allocated-below : (m : Mixer) (priority i : ℕ) → allocated m priority ≡ A.Voice i → i < m .n
+pub allocated-below : (m : Mixer) (priority i : ℕ) → allocated m priority ≡ value i → i < m .n
 unfolding allocated
 allocated-below m priority i e =
     let k = chosen-place (m .«stealing_policy») (voicesOf m) priority i (place-some _ i e) in

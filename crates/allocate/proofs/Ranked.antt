@@ -1,12 +1,14 @@
 -- The allocation by ranks is the allocation. Assumes nothing.
-use Prim.Native.Nat.{ℕ, zero, suc, _+_, _≤_, _<_}
+use Prim.Native.Nat.{ℕ, zero, suc, _+_, min, _≤_, _<_}
 use native.Mathlib.Omega.{arith}
 use native.Mathlib.Numerals.{add-one}
 use mathlib.Core.Path.{_≡_, refl, ap, sym, _∙_}
-use mathlib.Core.Bool.{cond}
+use mathlib.Core.Bool.{Bool, true, false, cond}
+use borrow.Author.Tests.{leb-true, leb-false}
+use lib.Dec.{leb}
 use mathlib.Core.List.{List, [], _∷_, _++_, map}
 use lib.ListN.{length, getD, take, set}
-use lib.Seq.{take-all, take-suc, take-suc-set}
+use lib.Seq.{take-all, take-length, take-suc, take-suc-set}
 use Rattle.ranking.specs.Rule.{firstLowest, lowestPriority, freeOnly}
 use Rattle.ranking.proofs.Ranked.{lowest-mapped, ranked-free, ranked-lowest}
 use Rattle.voice.specs.Voices.{audible}
@@ -42,6 +44,17 @@ module _ (vs : List Voice) (i : ℕ) where
 
   pub ranks-end : (ranks : List ℕ) → length vs ≤ i → length ranks ≤ i → take i ranks ≡ map rankOf (take i vs) → ranks ≡ map rankOf vs
   ranks-end ranks h k e = sym (take-all i ranks k) ∙ e ∙ ap (map rankOf) (take-all i vs h)
+
+-- past the last rank there is none more
+pub first-ranks : (n : ℕ) (ranks : List ℕ) → take (min n (length ranks)) ranks ≡ take n ranks
+first-ranks n ranks = by-test (leb n (length ranks)) refl
+  where
+    by-test : (t : Bool) → leb n (length ranks) ≡ t → take (min n (length ranks)) ranks ≡ take n ranks
+    by-test true h = let e : min n (length ranks) ≡ n = omega (arith, leb-true n (length ranks) h) in rw e
+    by-test false h =
+        let k = leb-false n (length ranks) h in
+        let e : min n (length ranks) ≡ length ranks = omega arith in
+        rw e (take-length ranks ∙ sym (take-all n ranks (omega arith)))
 
 by-policy : (policy : VoiceStealingPolicy) (vs : List Voice) (priority : ℕ) → firstLowest rankOf vs (boundOf policy priority) ≡ chosen policy vs priority
 unfolding freeOnly

@@ -2,6 +2,7 @@
 use Prim.Native.Nat.{ℕ}
 use mathlib.Core.List.{List}
 use mathlib.Core.Option.{Option, none, some}
+use Rattle.error.specs.Told.{Told, value, refused}
 use Rattle.ranking.specs.Rule.{lowestPriority, freeOnly}
 use Rattle.voice.specs.Voices.{audible}
 use Rattle.voice.specs.declared.Voice.{Voice}
@@ -15,10 +16,14 @@ use Rattle.mixer.specs.Mixers.{voicesOf}
 abbrev pub priorityOf : Voice → ℕ
 priorityOf v = v .priority
 
--- a place, or none
-abbrev pub placeOf : Option ℕ → Allocated
-placeOf none = A.None
-placeOf (some i) = A.Voice i
+-- "allocation finds none | 5"
+abbrev pub placeOf : Option ℕ → Told ℕ
+placeOf none = refused 5
+placeOf (some i) = value i
+
+abbrev pub toldPlace : Allocated → Told ℕ
+toldPlace (A.Voice i) = value i
+toldPlace A.None = refused 5
 
 -- "the first inaudible voice; else, under LowestPriorityOldest, the first voice of lowest priority if that is strictly below the
 -- request; else none. FreeChannelOnly never takes one."
@@ -26,5 +31,5 @@ abbrev pub chosen : VoiceStealingPolicy → List Voice → ℕ → Option ℕ
 chosen P.LowestPriorityOldest vs priority = lowestPriority audible priorityOf vs priority
 chosen P.FreeChannelOnly vs priority = freeOnly audible vs priority
 
-unfoldable pub allocated : Mixer → ℕ → Allocated
+unfoldable pub allocated : Mixer → ℕ → Told ℕ
 allocated m priority = placeOf (chosen (m .«stealing_policy») (voicesOf m) priority)

@@ -5,7 +5,7 @@ ghost use lib.ListN.{take};
 ghost use Rattle.ranking.specs.Rule.{firstFree, firstLowest};
 ghost use Rattle.voice.specs.Voices.{audible};
 ghost use Rattle.mixer.specs.Mixers.{Valid};
-ghost use Rattle.allocate.specs.Allocation.{placeOf, priorityOf, allocated};
+ghost use Rattle.allocate.specs.Allocation.{placeOf, toldPlace, priorityOf, allocated};
 use mixer::Mixer;
 use mixer::VoiceStealingPolicy;
 use voice::Voice;
@@ -19,7 +19,7 @@ pub enum Allocated {
 
 fn first_free(voices: [Voice; 16], n: usize) -> Allocated
     requires { ⌜ n ≤ 16 ⌝ }
-    ensures { λ r. ⌜ r ≡ placeOf (firstFree audible (take n voices)) ⌝ }
+    ensures { λ r. ⌜ toldPlace r ≡ placeOf (firstFree audible (take n voices)) ⌝ }
 {
     for i in 0..n {
         let v = voices[i];
@@ -32,7 +32,7 @@ fn first_free(voices: [Voice; 16], n: usize) -> Allocated
 
 fn first_lowest(voices: [Voice; 16], n: usize, priority: u8) -> Allocated
     requires { ⌜ n ≤ 16 ⌝ }
-    ensures { λ r. ⌜ r ≡ placeOf (firstLowest priorityOf (take n voices) priority) ⌝ }
+    ensures { λ r. ⌜ toldPlace r ≡ placeOf (firstLowest priorityOf (take n voices) priority) ⌝ }
 {
     let mut best = Allocated::None;
     let mut lowest = priority;
@@ -48,7 +48,7 @@ fn first_lowest(voices: [Voice; 16], n: usize, priority: u8) -> Allocated
 
 pub fn allocate_voice(m: Mixer, priority: u8) -> Allocated
     requires { ⌜ Valid m ⌝ }
-    ensures { λ r. ⌜ r ≡ allocated m priority ⌝ }
+    ensures { λ r. ⌜ toldPlace r ≡ allocated m priority ⌝ }
 {
     let voices = m.voices;
     let n = m.n;

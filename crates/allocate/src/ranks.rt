@@ -1,8 +1,9 @@
 // The allocation as one search over numbers, for a caller that plays many requests: a rank for each voice, kept beside the voices.
 ghost use mathlib.Core.Path.{_≡_};
 ghost use mathlib.Core.List.{map};
-ghost use Prim.Native.Nat.{_≤_};
-ghost use lib.ListN.{length, take};
+ghost use Prim.Native.Nat.{min};
+ghost use lib.ListN.{take};
+ghost use Rattle.allocate.specs.Allocation.{toldPlace};
 ghost use Rattle.allocate.specs.Ranked.{rankOf, boundOf, lowestRank};
 use crate::Allocated;
 use mixer::VoiceStealingPolicy;
@@ -39,14 +40,20 @@ pub fn bound(policy: VoiceStealingPolicy, priority: u8) -> u16
     }
 }
 
-pub fn lowest(ranks: &[u16], n: usize, bound: u16) -> Allocated
-    requires { ⌜ n ≤ 16 ⌝ }
-    requires { ⌜ n ≤ length (now ranks) ⌝ }
-    ensures { λ r. ⌜ r ≡ lowestRank (take n (now (ranks .entry))) bound ⌝ }
+// How many of the ranks are among the first n.
+fn fewer(n: usize, len: usize) -> usize
+    ensures { λ r. ⌜ r ≡ min n len ⌝ }
 {
+    if n < len { n } else { len }
+}
+
+pub fn lowest(ranks: &[u16], n: usize, bound: u16) -> Allocated
+    ensures { λ r. ⌜ toldPlace r ≡ lowestRank (take n (now (ranks .entry))) bound ⌝ }
+{
+    let end = fewer(n, ranks.len());
     let mut best = Allocated::None;
     let mut low = bound;
-    for i in 0..n {
+    for i in 0..end {
         let r = ranks[i];
         if r < low {
             low = r;

@@ -8,29 +8,26 @@ use native.Mathlib.Omega.{arith}
 use borrow.Author.Tests.{eqb-true, eqb-false, ltb-true, ltb-false}
 use lib.Dec.{eqb, ltb}
 use lib.ListN.{length}
-use Rattle.error.specs.declared.AudioError.the-variants as E
+use Rattle.error.specs.Told.{Told, value, refused}
 use Rattle.bank.specs.declared.SoundBank.{SoundBank}
 use Rattle.bank.specs.declared.BankSet.the-variants as S
 use Rattle.bank.specs.declared.EffectEntry.{EffectEntry}
-use Rattle.bank.specs.declared.EntryRead.{EntryRead}
-use Rattle.bank.specs.declared.EntryRead.the-variants as R
 use Rattle.bank.specs.Entries.{idAt, kindByte, entryAt}
 use Rattle.bank.specs.Search.{halving, countFrom, upTo, decided, foundIn, foundGiven}
-use Rattle.bank.specs.Banks.{Valid}
-use Rattle.bank.proofs.Laws.{lent-valid}
+use Rattle.bank.proofs.Laws.{lent-same}
 use Rattle.bank.proofs.Steps.{entry-known, entry-unknown, decided-bad, decided-hit, decided-on}
 
 -- an entry that the search answers
 pub record FoundAt (bytes : List ℕ) (count id : ℕ) (e : EffectEntry) : Type 0 where
   pub place : ℕ
   pub below : place < count
-  pub read : entryAt bytes place ≡ R.Entry e
+  pub read : entryAt bytes place ≡ value e
   pub asked : e .id ≡ id
 
 -- the search answers an entry
 pub record Found (bytes : List ℕ) (count id : ℕ) : Type 0 where
   pub entry : EffectEntry
-  pub same : foundIn bytes count id ≡ R.Entry entry
+  pub same : foundIn bytes count id ≡ value entry
   pub from : FoundAt bytes count id entry
 
 -- an entry whose kind byte is above 5
@@ -83,10 +80,10 @@ other-id : (bytes : List ℕ) (id count i : ℕ) → Every (λ j. idAt bytes j �
 other-id bytes id count i f h = rw (zero-add i) at (every-at (λ j. idAt bytes j ≡ id → ⊥) 0 count i f h)
 
 -- what an answer tells where these places were read
-data Tells (bytes : List ℕ) (count id : ℕ) (places : List ℕ) (r : EntryRead) : Type 0 where
-  hit : (e : EffectEntry) → r ≡ R.Entry e → FoundAt bytes count id e → Tells bytes count id places r
-  bad : r ≡ R.Refused E.InvalidEffectKind → BadKind bytes count → Tells bytes count id places r
-  none : r ≡ R.Refused E.EffectNotFound → Every (λ i. idAt bytes i ≡ id → ⊥) places → Tells bytes count id places r
+data Tells (bytes : List ℕ) (count id : ℕ) (places : List ℕ) (r : Told EffectEntry) : Type 0 where
+  hit : (e : EffectEntry) → r ≡ value e → FoundAt bytes count id e → Tells bytes count id places r
+  bad : r ≡ refused 9 → BadKind bytes count → Tells bytes count id places r
+  none : r ≡ refused 8 → Every (λ i. idAt bytes i ≡ id → ⊥) places → Tells bytes count id places r
 
 module _ (bytes : List ℕ) (count id : ℕ) where
   -- one place more in front
@@ -127,7 +124,7 @@ module _ (bytes : List ℕ) (count id : ℕ) where
       (every-append (λ j. j < count) (halving bytes id count 0 count) (upTo count) (halving-below bytes id count count 0 count (omega arith)) (scan-below count 0 count (omega arith)))
 
   -- an entry that is answered is one of the count entries, and has the id
-  pub found-entry : {e : EffectEntry} → foundIn bytes count id ≡ R.Entry e → FoundAt bytes count id e
+  pub found-entry : {e : EffectEntry} → foundIn bytes count id ≡ value e → FoundAt bytes count id e
   found-entry {e} q = by answered
     where
       by : Tells bytes count id probed (foundIn bytes count id) → FoundAt bytes count id e
@@ -136,22 +133,22 @@ module _ (bytes : List ℕ) (count id : ℕ) where
       by (none p f) = let z : _≡_ {A = ℕ} 0 1 = cc in absurd (omega arith)
 
   -- 8 only where no entry has the id
-  pub found-none : foundIn bytes count id ≡ R.Refused E.EffectNotFound → (i : ℕ) → i < count → idAt bytes i ≡ id → ⊥
+  pub found-none : foundIn bytes count id ≡ refused 8 → (i : ℕ) → i < count → idAt bytes i ≡ id → ⊥
   found-none q i h = by answered
     where
       by : Tells bytes count id probed (foundIn bytes count id) → idAt bytes i ≡ id → ⊥
       by (hit a p f) n = let z : _≡_ {A = ℕ} 0 1 = cc in omega arith
-      by (bad p f) n = let z : _≡_ {A = ℕ} 0 1 = cc in omega arith
+      by (bad p f) n = let z : _≡_ {A = ℕ} 8 9 = cc in omega arith
       by (none p f) n = other-id bytes id count i (every-right (λ j. idAt bytes j ≡ id → ⊥) (halving bytes id count 0 count) (upTo count) f) h n
 
   -- 9 only where a kind byte is above 5
-  pub found-bad : foundIn bytes count id ≡ R.Refused E.InvalidEffectKind → BadKind bytes count
+  pub found-bad : foundIn bytes count id ≡ refused 9 → BadKind bytes count
   found-bad q = by answered
     where
       by : Tells bytes count id probed (foundIn bytes count id) → BadKind bytes count
       by (hit a p f) = let z : _≡_ {A = ℕ} 0 1 = cc in absurd (omega arith)
       by (bad p f) = f
-      by (none p f) = let z : _≡_ {A = ℕ} 0 1 = cc in absurd (omega arith)
+      by (none p f) = let z : _≡_ {A = ℕ} 8 9 = cc in absurd (omega arith)
 
   -- where every kind byte is at most 5 and entry j has the id, an entry that has it is answered
   pub found-known : ((i : ℕ) → i < count → kindByte bytes i ≤ 5) → (j : ℕ) → j < count → idAt bytes j ≡ id → Found bytes count id
@@ -202,5 +199,5 @@ pub found-rising : (bytes : List ℕ) (count : ℕ) → ((i : ℕ) → i < count
 found-rising bytes count k r j h = found-distinct bytes count k (rising-distinct bytes count r) j h
 
 -- `find_by_id` gives what these laws speak of, for a bank that was set and as many bytes
-pub found-lent : (b : SoundBank) (bytes : List ℕ) (id : ℕ) → Valid b → length bytes ≡ b .len → foundGiven (S.Bank b) bytes id ≡ foundIn bytes (b .«effect_count») id
-found-lent b bytes id v e = rw (lent-valid b (length bytes) v e)
+pub found-lent : (b : SoundBank) (bytes : List ℕ) (id : ℕ) → length bytes ≡ b .len → foundGiven (S.Bank b) bytes id ≡ foundIn bytes (b .«effect_count») id
+found-lent b bytes id e = rw (lent-same b (length bytes) e)

@@ -1,5 +1,5 @@
 -- Laws that callers cite are in Laws and Found.
---     Laws     which banks are set, the checks in front, a payload's part: new-valid, lent-valid, lent-holds, whole-within,
+--     Laws     which banks are set, the checks in front, a payload's part: new-valid, lent-same, lent-holds, whole-within,
 --              whole-part, whole-length, whole-at-end, refused-part
 --     Found    what the search finds: found-entry, found-none, found-bad, found-known; found-distinct and found-rising, by which
 --              each entry is found by its id; found-lent

@@ -8,13 +8,11 @@ use native.Mathlib.Numerals.{add-one}
 use native.Mathlib.Omega.{arith}
 use borrow.Author.Tests.{eq-eqb, ne-eqb, lt-ltb, le-ltb}
 use lib.Dec.{ltb}
-use Rattle.error.specs.declared.AudioError.the-variants as E
+use Rattle.error.specs.Told.{Told, value, refused}
 use Rattle.tier.specs.declared.EffectKind.{EffectKind}
 use Rattle.tier.specs.declared.KindRead.the-variants.{Kind, Unknown}
 use Rattle.tier.specs.Kinds.{kindOf}
 use Rattle.bank.specs.declared.EffectEntry.{EffectEntry}
-use Rattle.bank.specs.declared.EntryRead.{EntryRead}
-use Rattle.bank.specs.declared.EntryRead.the-variants as R
 use Rattle.bank.specs.Entries.{idAt, kindByte, fieldsAt, entryAt}
 use Rattle.bank.specs.Search.{halving, countFrom, upTo, decided, foundIn, settled}
 
@@ -41,7 +39,7 @@ unknown n h =
 -- an entry whose kind byte is up to 5 is read, with its id
 pub record Read (bytes : List ℕ) (i : ℕ) : Type 0 where
   pub entry : EffectEntry
-  pub same : entryAt bytes i ≡ R.Entry entry
+  pub same : entryAt bytes i ≡ value entry
   pub its-id : entry .id ≡ idAt bytes i
 
 pub entry-known : (bytes : List ℕ) (i : ℕ) → kindByte bytes i ≤ 5 → Read bytes i
@@ -50,7 +48,7 @@ entry-known bytes i h =
     let k = known (kindByte bytes i) h in
     record { entry = fieldsAt bytes i (k .kind); same = rw (k .same); its-id = refl }
 
-pub entry-unknown : (bytes : List ℕ) (i : ℕ) → 5 < kindByte bytes i → entryAt bytes i ≡ R.Refused E.InvalidEffectKind
+pub entry-unknown : (bytes : List ℕ) (i : ℕ) → 5 < kindByte bytes i → entryAt bytes i ≡ refused 9
 unfolding entryAt
 entry-unknown bytes i h = rw (unknown (kindByte bytes i) h)
 
@@ -68,10 +66,10 @@ module _ (bytes : List ℕ) (id i : ℕ) (rest : List ℕ) where
   unfolding decided
   decided-on h n = let r = entry-known bytes i h in rw (r .same, ne-eqb (r .entry .id) id (λ e. n (sym (r .its-id) ∙ e)))
 
-settled-at : (bytes : List ℕ) (count i : ℕ) (others : EntryRead) → i < count → settled bytes count i others ≡ entryAt bytes i
+settled-at : (bytes : List ℕ) (count i : ℕ) (others : Told EffectEntry) → i < count → settled bytes count i others ≡ entryAt bytes i
 settled-at bytes count i others h = rw (lt-ltb i count h)
 
-settled-past : (bytes : List ℕ) (count : ℕ) (others : EntryRead) → settled bytes count count others ≡ others
+settled-past : (bytes : List ℕ) (count : ℕ) (others : Told EffectEntry) → settled bytes count count others ≡ others
 settled-past bytes count others = rw (le-ltb count count (omega arith))
 
 -- any fuel of at least size gives the same places
@@ -102,11 +100,11 @@ turn bytes id low zero h = absurd (lt-irrefl 0 h)
 turn bytes id low (suc n) h = let e : suc n - 1 ≡ n = omega arith in rw e
 
 module _ (bytes : List ℕ) (count id low size : ℕ) (more : 0 < size) (inv : Halving bytes count id low size) where
-  pub halving-bad : (others : EntryRead) → 5 < kindByte bytes (low + (size - 1) / 2) → foundIn bytes count id ≡ settled bytes count (low + (size - 1) / 2) others
+  pub halving-bad : (others : Told EffectEntry) → 5 < kindByte bytes (low + (size - 1) / 2) → foundIn bytes count id ≡ settled bytes count (low + (size - 1) / 2) others
   halving-bad others h =
       sym (inv .same) ∙ rw (turn bytes id low size more) (decided-bad bytes id (low + (size - 1) / 2) _ h) ∙ sym (settled-at bytes count (low + (size - 1) / 2) others (omega arith))
 
-  pub halving-hit : (others : EntryRead) → kindByte bytes (low + (size - 1) / 2) ≤ 5 → idAt bytes (low + (size - 1) / 2) ≡ id → foundIn bytes count id ≡ settled bytes count (low + (size - 1) / 2) others
+  pub halving-hit : (others : Told EffectEntry) → kindByte bytes (low + (size - 1) / 2) ≤ 5 → idAt bytes (low + (size - 1) / 2) ≡ id → foundIn bytes count id ≡ settled bytes count (low + (size - 1) / 2) others
   halving-hit others h e =
       sym (inv .same) ∙ rw (turn bytes id low size more) (decided-hit bytes id (low + (size - 1) / 2) _ h e) ∙ sym (settled-at bytes count (low + (size - 1) / 2) others (omega arith))
 
@@ -148,11 +146,11 @@ unfolding countFrom
 next i count h = let e : count - i ≡ suc (count - (i + 1)) = omega arith in rw (e, add-one i)
 
 module _ (bytes : List ℕ) (count id i : ℕ) (more : i < count) (inv : Scanning bytes count id i) where
-  pub scanning-bad : (others : EntryRead) → 5 < kindByte bytes i → decided bytes id (upTo count) ≡ settled bytes count i others
+  pub scanning-bad : (others : Told EffectEntry) → 5 < kindByte bytes i → decided bytes id (upTo count) ≡ settled bytes count i others
   scanning-bad others h =
       sym (inv .same) ∙ rw (next i count more) (decided-bad bytes id i _ h) ∙ sym (settled-at bytes count i others more)
 
-  pub scanning-hit : (others : EntryRead) → kindByte bytes i ≤ 5 → idAt bytes i ≡ id → decided bytes id (upTo count) ≡ settled bytes count i others
+  pub scanning-hit : (others : Told EffectEntry) → kindByte bytes i ≤ 5 → idAt bytes i ≡ id → decided bytes id (upTo count) ≡ settled bytes count i others
   scanning-hit others h e =
       sym (inv .same) ∙ rw (next i count more) (decided-hit bytes id i _ h e) ∙ sym (settled-at bytes count i others more)
 

@@ -3,7 +3,8 @@
 use Prim.Native.Nat.{ℕ, _+_, _*_}
 use mathlib.Core.List.{List}
 use lib.ListN.{getD}
-use Rattle.error.specs.declared.AudioError.the-variants as E
+use Rattle.error.specs.Numbers.{numberOf}
+use Rattle.error.specs.Told.{Told, value, refused}
 use Rattle.tier.specs.declared.EffectKind.{EffectKind}
 use Rattle.tier.specs.declared.KindRead.{KindRead}
 use Rattle.tier.specs.declared.KindRead.the-variants.{Kind, Unknown}
@@ -16,18 +17,18 @@ use Rattle.bank.specs.declared.EntryRead.the-variants as R
 abbrev pub byteAt : List ℕ → ℕ → ℕ
 byteAt bytes k = getD bytes k 0
 
-abbrev pub wideAt : List ℕ → ℕ → ℕ
-wideAt bytes k = byteAt bytes k + 256 * byteAt bytes (k + 1)
+abbrev pub little16At : List ℕ → ℕ → ℕ
+little16At bytes k = byteAt bytes k + 256 * byteAt bytes (k + 1)
 
-abbrev pub longAt : List ℕ → ℕ → ℕ
-longAt bytes k = wideAt bytes k + 65536 * wideAt bytes (k + 2)
+abbrev pub little32At : List ℕ → ℕ → ℕ
+little32At bytes k = little16At bytes k + 65536 * little16At bytes (k + 2)
 
 -- "Entry i begins at 10 + 16i"
 abbrev pub placeOf : ℕ → ℕ
 placeOf i = 10 + 16 * i
 
 abbrev pub idAt : List ℕ → ℕ → ℕ
-idAt bytes i = wideAt bytes (placeOf i)
+idAt bytes i = little16At bytes (placeOf i)
 
 abbrev pub kindByte : List ℕ → ℕ → ℕ
 kindByte bytes i = byteAt bytes (placeOf i + 2)
@@ -39,16 +40,20 @@ fieldsAt bytes i kind =
       kind = kind;
       flags = byteAt bytes (placeOf i + 3);
       «default_gain_q8» = byteAt bytes (placeOf i + 4);
-      param0 = wideAt bytes (placeOf i + 6);
-      param1 = wideAt bytes (placeOf i + 8);
-      offset = longAt bytes (placeOf i + 10);
-      len = wideAt bytes (placeOf i + 14);
+      param0 = little16At bytes (placeOf i + 6);
+      param1 = little16At bytes (placeOf i + 8);
+      offset = little32At bytes (placeOf i + 10);
+      len = little16At bytes (placeOf i + 14);
     }
 
-abbrev pub ofKind : List ℕ → ℕ → KindRead → EntryRead
-ofKind bytes i Unknown = R.Refused E.InvalidEffectKind
-ofKind bytes i (Kind kind) = R.Entry (fieldsAt bytes i kind)
+abbrev pub ofKind : List ℕ → ℕ → KindRead → Told EffectEntry
+ofKind bytes i Unknown = refused 9
+ofKind bytes i (Kind kind) = value (fieldsAt bytes i kind)
 
--- entry i; 9 `InvalidEffectKind` where "a probed entry's kind byte is above 5"
-unfoldable pub entryAt : List ℕ → ℕ → EntryRead
+-- entry i; 9 where "a probed entry's kind byte is above 5"
+unfoldable pub entryAt : List ℕ → ℕ → Told EffectEntry
 entryAt bytes i = ofKind bytes i (kindOf (kindByte bytes i))
+
+abbrev pub toldEntry : EntryRead → Told EffectEntry
+toldEntry (R.Entry e) = value e
+toldEntry (R.Refused e) = refused (numberOf e)

@@ -5,12 +5,9 @@ use mathlib.Core.Bool.{cond}
 use mathlib.Core.List.{List, [], _∷_, _++_}
 use lib.Dec.{eqb, ltb}
 use lib.ListN.{length}
-use Rattle.error.specs.declared.AudioError.the-variants as E
+use Rattle.error.specs.Told.{Told, value, refused, andThen}
 use Rattle.bank.specs.declared.BankSet.{BankSet}
-use Rattle.bank.specs.declared.BankRead.{BankRead}
-use Rattle.bank.specs.declared.BankRead.the-variants as B
-use Rattle.bank.specs.declared.EntryRead.{EntryRead}
-use Rattle.bank.specs.declared.EntryRead.the-variants as R
+use Rattle.bank.specs.declared.EffectEntry.{EffectEntry}
 use Rattle.bank.specs.Entries.{idAt, entryAt}
 use Rattle.bank.specs.Banks.{lentBank}
 
@@ -34,27 +31,19 @@ countFrom i (suc n) = i ∷ countFrom (suc i) n
 abbrev pub upTo : ℕ → List ℕ
 upTo count = countFrom 0 count
 
--- an entry that was read: a refusal ends the search, a hit answers it, else the others answer
-abbrev pub orElse : ℕ → EntryRead → EntryRead → EntryRead
-orElse id (R.Refused e) others = R.Refused e
-orElse id (R.Entry e) others = cond (eqb (e .id) id) (R.Entry e) others
-
--- the entries read in this order: "whichever row is met first along its path is given"; 8 `EffectNotFound` where "no entry has the id"
-unfoldable pub decided : List ℕ → ℕ → List ℕ → EntryRead
-decided bytes id [] = R.Refused E.EffectNotFound
-decided bytes id (i ∷ rest) = orElse id (entryAt bytes i) (decided bytes id rest)
+-- the entries read in this order: "whichever row is met first along its path is given", so a refusal ends the search, and a hit answers it;
+-- 8 where "no entry has the id"
+unfoldable pub decided : List ℕ → ℕ → List ℕ → Told EffectEntry
+decided bytes id [] = refused 8
+decided bytes id (i ∷ rest) = andThen (entryAt bytes i) (λ e. cond (eqb (e .id) id) (value e) (decided bytes id rest))
 
 -- the search among count entries. After a hit the places may go on; the first one that decides counts.
-unfoldable pub foundIn : List ℕ → ℕ → ℕ → EntryRead
+unfoldable pub foundIn : List ℕ → ℕ → ℕ → Told EffectEntry
 foundIn bytes count id = decided bytes id (halving bytes id count 0 count ++ upTo count)
 
-abbrev pub foundOf : BankRead → List ℕ → ℕ → EntryRead
-foundOf (B.Refused e) bytes id = R.Refused e
-foundOf (B.Bank b) bytes id = foundIn bytes (b .«effect_count») id
-
-abbrev pub foundGiven : BankSet → List ℕ → ℕ → EntryRead
-foundGiven bank bytes id = foundOf (lentBank bank (length bytes)) bytes id
+abbrev pub foundGiven : BankSet → List ℕ → ℕ → Told EffectEntry
+foundGiven bank bytes id = andThen (lentBank bank (length bytes)) (λ b. foundIn bytes (b .«effect_count») id)
 
 -- what a loop of the search gives: the place that decides, or count where none does and the others answer
-abbrev pub settled : List ℕ → ℕ → ℕ → EntryRead → EntryRead
+abbrev pub settled : List ℕ → ℕ → ℕ → Told EffectEntry → Told EffectEntry
 settled bytes count i others = cond (ltb i count) (entryAt bytes i) others

@@ -3,16 +3,17 @@ ghost use mathlib.Core.Path.{_≡_};
 ghost use mathlib.Core.List.{[]};
 ghost use Prim.Native.Nat.{_+_, _≤_, _<_};
 ghost use lib.ListN.{length};
-ghost use Rattle.bank.specs.Entries.{wideAt, longAt, placeOf, entryAt};
-ghost use Rattle.bank.specs.Banks.{bankOf, lentBank, entryGiven, payloadGiven, payloadPart};
+ghost use Rattle.error.specs.Told.{Answered};
+ghost use Rattle.bank.specs.Entries.{little16At, little32At, placeOf, entryAt, toldEntry};
+ghost use Rattle.bank.specs.Banks.{Valid, ValidBank, bankOf, lentBank, toldBank, entryGiven, payloadGiven, toldPayload, payloadPart};
 ghost use Rattle.bank.specs.Search.{upTo, decided, foundIn, foundGiven, settled};
 use error::AudioError;
 use tier::EffectKind;
 use tier::KindRead;
 
-const HEADER_SIZE: usize = 10;
+pub const HEADER_SIZE: usize = 10;
 
-const ENTRY_SIZE: usize = 16;
+pub const ENTRY_SIZE: usize = 16;
 
 const LAST_KIND: u8 = 5;
 
@@ -32,11 +33,11 @@ pub enum EntryRead {
     Refused(AudioError),
 }
 
-// What is kept of a bank.
+// What is kept of a bank; only setting it makes one.
 pub struct SoundBank {
-    pub sample_rate_hz: u32,
-    pub effect_count: u16,
-    pub len: usize,
+    sample_rate_hz: u32,
+    effect_count: u16,
+    len: usize,
 }
 
 // The source's `Option<SoundBank>`.
@@ -57,7 +58,7 @@ pub enum PayloadRead {
 
 impl SoundBank {
     pub fn new(sample_rate_hz: u32, effect_count: u16, len: usize) -> BankRead
-        ensures { λ r. ⌜ r ≡ bankOf «sample_rate_hz» «effect_count» len ⌝ }
+        ensures { λ r. ⌜ Answered toldBank Valid (bankOf «sample_rate_hz» «effect_count» len) r ⌝ }
     {
         let end = HEADER_SIZE + ENTRY_SIZE * (effect_count as usize);
         if sample_rate_hz > 65537 {
@@ -72,11 +73,29 @@ impl SoundBank {
             len,
         })
     }
+
+    pub fn sample_rate_hz(self) -> u32
+        ensures { λ r. ⌜ r ≡ self .«sample_rate_hz» ⌝ }
+    {
+        self.sample_rate_hz
+    }
+
+    pub fn effect_count(self) -> u16
+        ensures { λ r. ⌜ r ≡ self .«effect_count» ⌝ }
+    {
+        self.effect_count
+    }
+
+    pub fn len(self) -> usize
+        ensures { λ r. ⌜ r ≡ self .len ⌝ }
+    {
+        self.len
+    }
 }
 
-// The checks in front of every lookup. A bank that `SoundBank::new` never gave can say more entries than its bytes hold: 4 here too.
+// The checks in front of every lookup.
 pub fn lent_bank(bank: BankSet, lent: usize) -> BankRead
-    ensures { λ r. ⌜ r ≡ lentBank bank lent ⌝ }
+    ensures { λ r. ⌜ toldBank r ≡ lentBank bank lent ⌝ }
 {
     match bank {
         BankSet::None => BankRead::Refused(AudioError::NoBank),
@@ -84,55 +103,52 @@ pub fn lent_bank(bank: BankSet, lent: usize) -> BankRead
             if lent != b.len {
                 return BankRead::Refused(AudioError::BankMismatch);
             }
-            if HEADER_SIZE + ENTRY_SIZE * (b.effect_count as usize) > lent {
-                BankRead::Refused(AudioError::TruncatedBank)
-            } else {
-                BankRead::Bank(b)
-            }
+            BankRead::Bank(b)
         }
     }
 }
 
 // Little-endian numbers of two bytes and four.
-fn wide_at(bytes: &[u8], k: usize) -> u16
+fn little16_at(bytes: &[u8], k: usize) -> u16
     requires { ⌜ k + 1 < length (now bytes) ⌝ }
-    ensures { λ r. ⌜ r ≡ wideAt (now (bytes .entry)) k ⌝ }
+    ensures { λ r. ⌜ r ≡ little16At (now (bytes .entry)) k ⌝ }
 {
     let low = bytes[k];
     let high = bytes[k + 1];
     (low as u16) + 256 * (high as u16)
 }
 
-fn long_at(bytes: &[u8], k: usize) -> u32
+fn little32_at(bytes: &[u8], k: usize) -> u32
     requires { ⌜ k + 3 < length (now bytes) ⌝ }
-    ensures { λ r. ⌜ r ≡ longAt (now (bytes .entry)) k ⌝ }
+    ensures { λ r. ⌜ r ≡ little32At (now (bytes .entry)) k ⌝ }
 {
-    (wide_at(bytes, k) as u32) + 65536 * (wide_at(bytes, k + 2) as u32)
+    (little16_at(bytes, k) as u32) + 65536 * (little16_at(bytes, k + 2) as u32)
 }
 
 // Entry i, its kind byte checked first.
 fn read_at(bytes: &[u8], i: usize) -> EntryRead
     requires { ⌜ placeOf i + 16 ≤ length (now bytes) ⌝ }
-    ensures { λ r. ⌜ r ≡ entryAt (now (bytes .entry)) i ⌝ }
+    ensures { λ r. ⌜ toldEntry r ≡ entryAt (now (bytes .entry)) i ⌝ }
 {
     let k = HEADER_SIZE + ENTRY_SIZE * i;
     match EffectKind::from_u8(bytes[k + 2]) {
         KindRead::Unknown => EntryRead::Refused(AudioError::InvalidEffectKind),
         KindRead::Kind(kind) => EntryRead::Entry(EffectEntry {
-            id: wide_at(bytes, k),
+            id: little16_at(bytes, k),
             kind,
             flags: bytes[k + 3],
             default_gain_q8: bytes[k + 4],
-            param0: wide_at(bytes, k + 6),
-            param1: wide_at(bytes, k + 8),
-            offset: long_at(bytes, k + 10),
-            len: wide_at(bytes, k + 14) as u32,
+            param0: little16_at(bytes, k + 6),
+            param1: little16_at(bytes, k + 8),
+            offset: little32_at(bytes, k + 10),
+            len: little16_at(bytes, k + 14) as u32,
         }),
     }
 }
 
 pub fn entry(bank: BankSet, bytes: &[u8], index: usize) -> EntryRead
-    ensures { λ r. ⌜ r ≡ entryGiven bank (now (bytes .entry)) index ⌝ }
+    requires { ⌜ ValidBank bank ⌝ }
+    ensures { λ r. ⌜ toldEntry r ≡ entryGiven bank (now (bytes .entry)) index ⌝ }
 {
     match lent_bank(bank, bytes.len()) {
         BankRead::Refused(e) => EntryRead::Refused(e),
@@ -160,7 +176,7 @@ fn halve(bytes: &[u8], count: usize, id: u16) -> usize
         if bytes[k + 2] > LAST_KIND {
             return mid;
         }
-        let here = wide_at(bytes, k);
+        let here = little16_at(bytes, k);
         if here == id {
             return mid;
         }
@@ -185,7 +201,7 @@ fn scan(bytes: &[u8], count: usize, id: u16) -> usize
         if bytes[k + 2] > LAST_KIND {
             return i;
         }
-        if wide_at(bytes, k) == id {
+        if little16_at(bytes, k) == id {
             return i;
         }
         i += 1;
@@ -194,7 +210,8 @@ fn scan(bytes: &[u8], count: usize, id: u16) -> usize
 }
 
 pub fn find_by_id(bank: BankSet, bytes: &[u8], id: u16) -> EntryRead
-    ensures { λ r. ⌜ r ≡ foundGiven bank (now (bytes .entry)) id ⌝ }
+    requires { ⌜ ValidBank bank ⌝ }
+    ensures { λ r. ⌜ toldEntry r ≡ foundGiven bank (now (bytes .entry)) id ⌝ }
 {
     match lent_bank(bank, bytes.len()) {
         BankRead::Refused(e) => EntryRead::Refused(e),
@@ -215,7 +232,7 @@ pub fn find_by_id(bank: BankSet, bytes: &[u8], id: u16) -> EntryRead
 
 // A payload's number, and the payload: the very part of the bytes lent, empty where it is refused.
 pub fn payload_number(bank: BankSet, bytes: &[u8], offset: u32, len: u32) -> PayloadRead
-    ensures { λ r. ⌜ r ≡ payloadGiven bank (now (bytes .entry)) offset len ⌝ }
+    ensures { λ r. ⌜ toldPayload r ≡ payloadGiven bank (now (bytes .entry)) offset len ⌝ }
 {
     match lent_bank(bank, bytes.len()) {
         BankRead::Refused(e) => PayloadRead::Refused(e),

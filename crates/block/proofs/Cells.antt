@@ -21,7 +21,7 @@ le-or-gt a b = go (decLe a b)
 
 module _ {A : Type 0} {d : A} {f : ℕ → A} where
   pub written-none : {a b : ℕ} {l : List A} → b ≤ a → Written d f a b l l
-  written-none h = record { size = refl; there = λ j k l. absurd (omega arith); below = λ j k. refl; above = λ j k. refl }
+  written-none h = record { size = refl; there = λ j k l. absurd (omega arith); before = λ j k. refl; behind = λ j k. refl }
 
   -- the next cell
   pub written-next : {from to : ℕ} {was is : List A} (at next : ℕ) (v : A) → Written d f from to was is → from ≤ to → at ≡ to → next ≡ suc to
@@ -35,8 +35,8 @@ module _ {A : Type 0} {d : A} {f : ℕ → A} where
               | inl p ↦ (let q : j ≡ to = omega arith in rw (q, ← e, getD-set-same is at v d b, h, e))
               | inr p ↦ rw (getD-set-other is at j v d (λ q. omega arith)) (w .there j k p)
             ];
-        below = λ j k. rw (getD-set-other is at j v d (λ q. omega arith)) (w .below j k);
-        above = λ j k. rw (getD-set-other is at j v d (λ q. omega arith)) (w .above j (omega arith));
+        before = λ j k. rw (getD-set-other is at j v d (λ q. omega arith)) (w .before j k);
+        behind = λ j k. rw (getD-set-other is at j v d (λ q. omega arith)) (w .behind j (omega arith));
       }
 
   -- one run after another
@@ -47,10 +47,10 @@ module _ {A : Type 0} {d : A} {f : ℕ → A} where
         there = λ j l m.
             elim (le-or-gt b j) [
               | inl p ↦ w .there j p m
-              | inr p ↦ w .below j p ∙ v .there j l p
+              | inr p ↦ w .before j p ∙ v .there j l p
             ];
-        below = λ j l. w .below j (omega arith) ∙ v .below j l;
-        above = λ j l. w .above j l ∙ v .above j (omega arith);
+        before = λ j l. w .before j (omega arith) ∙ v .before j l;
+        behind = λ j l. w .behind j l ∙ v .behind j (omega arith);
       }
 
   -- the whole, as a list before the rest
@@ -62,14 +62,14 @@ module _ {A : Type 0} {d : A} {f : ℕ → A} where
       elim (le-or-gt n j) [
         | inl p ↦
             (let q : j ≡ length l + (j - n) = omega arith in
-            w .above j p ∙ sym (ap (λ (i : ℕ). getD (l ++ drop n was) i d) q ∙ getD-append-add l (drop n was) (j - n) d ∙ rw getD-drop (ap (λ (i : ℕ). getD was i d) (omega arith))))
+            w .behind j p ∙ sym (ap (λ (i : ℕ). getD (l ++ drop n was) i d) q ∙ getD-append-add l (drop n was) (j - n) d ∙ rw getD-drop (ap (λ (i : ℕ). getD was i d) (omega arith))))
         | inr p ↦ w .there j (omega arith) p ∙ sym (List·getD-append l (drop n was) d j (omega arith) ∙ g j p)
       ])
 
 -- the same cells under another name
 pub written-as : {A : Type 0} {d : A} {f g : ℕ → A} {a b : ℕ} {was is : List A} → ((j : ℕ) → a ≤ j → j < b → f j ≡ g j) → Written d f a b was is
     → Written d g a b was is
-written-as e w = record { size = w .size; there = λ j k l. w .there j k l ∙ e j k l; below = w .below; above = w .above }
+written-as e w = record { size = w .size; there = λ j k l. w .there j k l ∙ e j k l; before = w .before; behind = w .behind }
 
 -- ---- sums and counts
 
@@ -78,12 +78,12 @@ added-none samples gain l = record { cells = written-none (omega arith); grown =
 
 -- the cell that a turn adds to
 pub added-old : {samples : List ℤ} {gain k : ℕ} {was is : List ℤ} {b : ℕ} → Added samples gain k was is → Within b was → natAbs (getD is k (pos 0)) ≤ b
-added-old {k = k} a h = rw (a .cells .above k (omega arith)) (h k)
+added-old {k = k} a h = rw (a .cells .behind k (omega arith)) (h k)
 
 pub added-next : {samples : List ℤ} {gain k : ℕ} {was is : List ℤ} (r v : ℤ) → Added samples gain k was is → length was ≡ 256 → k < 256
     → v ≡ getD is k (pos 0) +ℤ r → Scaled (getD samples k (pos 0)) gain r → Added samples gain (k + 1) was (set is k v)
 added-next {samples} {gain} {k} {was} {is} r v a l h e s =
-    let o : getD is k (pos 0) ≡ getD was k (pos 0) = a .cells .above k (omega arith) in
+    let o : getD is k (pos 0) ≡ getD was k (pos 0) = a .cells .behind k (omega arith) in
     let there : k < length is = omega (arith, a .cells .size) in
     record {
       cells = written-next k (k + 1) v (a .cells) (omega arith) refl (omega arith) (omega arith) (rw (e, o, s .value));
@@ -104,11 +104,11 @@ pub tallied-none : (l : List ℕ) → Tallied 0 l l
 tallied-none l = record { cells = written-none (omega arith); grown = λ b h j. omega (arith, h j) }
 
 pub tallied-old : {k : ℕ} {was is : List ℕ} {b : ℕ} → Tallied k was is → AtMost b was → getD is k 0 ≤ b
-tallied-old {k = k} a h = rw (a .cells .above k (omega arith)) (h k)
+tallied-old {k = k} a h = rw (a .cells .behind k (omega arith)) (h k)
 
 pub tallied-next : {k : ℕ} {was is : List ℕ} → Tallied k was is → length was ≡ 256 → k < 256 → Tallied (k + 1) was (set is k (getD is k 0 + 1))
 tallied-next {k} {was} {is} a l h =
-    let o : getD is k 0 ≡ getD was k 0 = a .cells .above k (omega arith) in
+    let o : getD is k 0 ≡ getD was k 0 = a .cells .behind k (omega arith) in
     let there : k < length is = omega (arith, a .cells .size) in
     let v = getD is k 0 + 1 in
     record {

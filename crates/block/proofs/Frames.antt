@@ -29,7 +29,7 @@ use Rattle.frame.specs.Fades.{voiceAt, fadeEnded, fadeAt, nextT, advanced}
 use Rattle.frame.specs.Frames.{enveloped, sampled, leveled, averaged, crossed, sampleOf, monoMix, monoFrame, leftOf, rightOf, sideTotal, stereoFrame}
 use Rattle.frame.specs.Runs.{monoStep, stereoStep}
 use Rattle.voice.specs.Blocks.{voiceStep, voiceAnswer, voiceRun}
-use Rattle.block.specs.Blocks.{Slow, pace}
+use Rattle.block.specs.Parts.{Slow, pace}
 use Rattle.block.proofs.Sums.{sumOver}
 
 -- ---- steps that give one thing each

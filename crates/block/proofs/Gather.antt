@@ -29,7 +29,7 @@ use Rattle.voice.proofs.Runs.{voice-stops}
 use Rattle.voice.specs.Blocks.{voiceStep, voiceAnswer, voiceRun, VoiceBlock}
 use Rattle.voice.specs.Voices.{silentVoice, tickedVoice}
 use Rattle.voice.specs.declared.Voice.{Voice}
-use Rattle.block.specs.Blocks.{Slow, frameAt, movedOn, restedOthers}
+use Rattle.block.specs.Parts.{Slow, frameAt, movedOn, restedOthers}
 use Rattle.voice.specs.declared.blocks.VoiceRun.{VoiceRun}
 use Rattle.block.proofs.Parts.{read-at, others-stored}
 use Rattle.block.specs.Cells.{Within, AtMost, Added, Tallied, meanOf, meanAt, cellAnswer, fadedAt}
@@ -58,7 +58,7 @@ added-cell : {samples : List ℤ} {gain n : ℕ} {was is : List ℤ} (k : ℕ) �
 unfolding valueOf
 added-cell {n = n} {was = was} k a =
     elim (le-or-gt n k) [
-      | inl p ↦ rw (le-ltb k n p, +ℤ-idr (getD was k (pos 0))) (a .cells .above k p)
+      | inl p ↦ rw (le-ltb k n p, +ℤ-idr (getD was k (pos 0))) (a .cells .behind k p)
       | inr p ↦ rw (lt-ltb k n p) (a .cells .there k (omega arith) p)
     ]
 
@@ -66,7 +66,7 @@ tallied-cell : {n : ℕ} {was is : List ℕ} (samples : List ℤ) (k : ℕ) → 
 unfolding oneOf
 tallied-cell {n = n} samples k a =
     elim (le-or-gt n k) [
-      | inl p ↦ rw (le-ltb k n p) (omega (arith, a .cells .above k p))
+      | inl p ↦ rw (le-ltb k n p) (omega (arith, a .cells .behind k p))
       | inr p ↦ rw (lt-ltb k n p) (omega (arith, a .cells .there k (omega arith) p))
     ]
 

@@ -23,7 +23,8 @@ use Rattle.mixer.specs.Mixers.{Valid}
 use Rattle.mixer.specs.declared.Mixer.{Mixer}
 use Rattle.voice.specs.Voices.{silentVoice, stoppedVoice}
 use Rattle.voice.specs.declared.Voice.{Voice}
-use Rattle.block.specs.Blocks.{Slow, FadeFrames, MonoPart, StereoPart, MonoBlock, StereoBlock, frameAt, pace}
+use Rattle.block.specs.Blocks.{MonoBlock, StereoBlock}
+use Rattle.block.specs.Parts.{Slow, FadeFrames, MonoPart, StereoPart, frameAt, pace}
 use Rattle.block.specs.Cells.{Written}
 use Rattle.block.proofs.Cells.{written-both, written-whole, written-as}
 use Rattle.block.proofs.Frames.{given-at, given-length, moved, runAll, runPair, Pair, after-pair, after-stereo, Ends, mono-ending, stereo-ending, frames-same, after-same}

@@ -1,20 +1,15 @@
 -- What a block of frames gives: the frames one after another. Assumes nothing.
-use Prim.Native.Nat.{ℕ, _+_, _-_, _*_, _≤_, _<_}
+use Prim.Native.Nat.{ℕ}
 use mathlib.Core.Path.{_≡_}
-use mathlib.Core.Bool.{true, cond}
 use mathlib.Core.List.{List, [], _∷_, _++_}
-use lib.IntN.{ℤ, pos}
-use lib.ListN.{drop, set}
-use Rattle.frame.specs.Fades.{fadeAt, voiceAt}
-use Rattle.frame.specs.Frames.{monoFrame, stereoFrame}
+use lib.IntN.{ℤ}
+use lib.ListN.{drop}
+use Rattle.frame.specs.Frames.{stereoFrame}
 use Rattle.frame.specs.Runs.{monoStep, monoSamples, stereoStep}
-use Rattle.laws.specs.Lists.{mapFirst}
 use Rattle.laws.specs.Made.{Made}
 use Rattle.laws.specs.Runs.{after, given}
-use Rattle.mixer.specs.Mixers.{Valid, withVoices}
+use Rattle.mixer.specs.Mixers.{Valid}
 use Rattle.mixer.specs.declared.Mixer.{Mixer}
-use Rattle.voice.specs.Voices.{tickedVoice}
-use Rattle.block.specs.Cells.{Written}
 
 -- n mono frames: the state after them, and the cells, which take their samples from the front on
 pub record MonoBlock (m : Mixer) (n : ℕ) (was : List ℤ) (r : Mixer) (is : List ℤ) : Type 0 where
@@ -26,41 +21,3 @@ pub record StereoBlock (m : Mixer) (n : ℕ) (leftWas rightWas : List ℤ) (r : 
   pub mixer : Made Valid (after stereoStep n m) r
   pub left : leftIs ≡ given stereoStep (λ m. stereoFrame m .left ∷ []) n m ++ drop n leftWas
   pub right : rightIs ≡ given stereoStep (λ m. stereoFrame m .right ∷ []) n m ++ drop n rightWas
-
--- ---- a part of a block: its len frames stand from cell `at` on
-
--- the sample at cell j
-abbrev pub frameAt : (Mixer → Mixer) → (Mixer → ℤ) → Mixer → ℕ → ℕ → ℤ
-frameAt step sample m at j = sample (after step (j - at) m)
-
-pub record MonoPart (m : Mixer) (at len : ℕ) (was : List ℤ) (r : Mixer) (is : List ℤ) : Type 0 where
-  pub mixer : Made Valid (after monoStep len m) r
-  pub cells : Written (pos 0) (frameAt monoStep (λ m. monoFrame m .pcm) m at) at (at + len) was is
-
-pub record StereoPart (m : Mixer) (at len : ℕ) (leftWas rightWas : List ℤ) (r : Mixer) (leftIs rightIs : List ℤ) : Type 0 where
-  pub mixer : Made Valid (after stereoStep len m) r
-  pub left : Written (pos 0) (frameAt stereoStep (λ m. stereoFrame m .left) m at) at (at + len) leftWas leftIs
-  pub right : Written (pos 0) (frameAt stereoStep (λ m. stereoFrame m .right) m at) at (at + len) rightWas rightIs
-
--- ---- the fade in a block
-
--- no fade, or one that goes on after len frames
-abbrev pub Slow : Mixer → ℕ → Type 0
-Slow m len = m .«crossfade_active» ≡ true → 0 < len → m .«crossfade_t_q8» + len * m .«crossfade_step_q8» < 255
-
--- of len frames the first r leave the fade going on, and the next ends it
-pub record FadeFrames (t step len r : ℕ) : Type 0 where
-  pub most : r ≤ len
-  pub goes : 0 < r → t + r * step < 255
-  pub ends : r < len → 255 ≤ t + r * step + step
-
--- what a frame adds to t
-abbrev pub pace : Mixer → ℕ
-pace m = cond (m .«crossfade_active») (m .«crossfade_step_q8») 0
-
-abbrev pub movedOn : Mixer → ℕ → Mixer
-movedOn m len = fadeAt m (m .«crossfade_t_q8» + len * pace m)
-
--- the voices but 0 and 1 after len ticks
-abbrev pub restedOthers : Mixer → ℕ → Mixer
-restedOthers m len = withVoices m (set (set (mapFirst (after tickedVoice len) (m .n) (m .voices)) 0 (voiceAt m 0)) 1 (voiceAt m 1))

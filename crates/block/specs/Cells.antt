@@ -1,4 +1,4 @@
--- Cells of a block: written, added to, counted up. Assumes nothing.
+-- Inner: cells of a block, written, added to, counted up. Assumes nothing.
 use Prim.Native.Nat.{ℕ, suc, _+_, _-_, _*_, _≤_, _<_}
 use mathlib.Core.Path.{_≡_}
 use mathlib.Core.Bool.{Bool, cond}
@@ -16,8 +16,8 @@ use Rattle.laws.specs.Whole.{truncDiv}
 pub record Written {A : Type 0} (zero : A) (f : ℕ → A) (from to : ℕ) (was is : List A) : Type 0 where
   pub size : length is ≡ length was
   pub there : (j : ℕ) → from ≤ j → j < to → getD is j zero ≡ f j
-  pub below : (j : ℕ) → j < from → getD is j zero ≡ getD was j zero
-  pub above : (j : ℕ) → to ≤ j → getD is j zero ≡ getD was j zero
+  pub before : (j : ℕ) → j < from → getD is j zero ≡ getD was j zero
+  pub behind : (j : ℕ) → to ≤ j → getD is j zero ≡ getD was j zero
 
 -- no cell is larger than b
 abbrev pub Within : ℕ → List ℤ → Type 0

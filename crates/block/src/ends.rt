@@ -6,7 +6,7 @@ ghost use Rattle.laws.specs.Made.{Made};
 ghost use Rattle.frame.specs.Fades.{takenOver, fadeEnded};
 ghost use Rattle.mixer.specs.Mixers.{Valid};
 ghost use Rattle.voice.specs.Voices as S;
-ghost use Rattle.block.specs.Blocks.{FadeFrames, Slow, movedOn, restedOthers};
+ghost use Rattle.block.specs.Parts.{FadeFrames, Slow, movedOn, restedOthers};
 use mixer::Mixer;
 use voice::Voice;
 

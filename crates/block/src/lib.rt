@@ -4,7 +4,8 @@ ghost use mathlib.Core.Bool.{true, false};
 ghost use Prim.Native.Nat.{_+_, _≤_, min};
 ghost use lib.ListN.{length};
 ghost use Rattle.mixer.specs.Mixers.{Valid};
-ghost use Rattle.block.specs.Blocks.{MonoPart, StereoPart, MonoBlock, StereoBlock, Slow};
+ghost use Rattle.block.specs.Blocks.{MonoBlock, StereoBlock};
+ghost use Rattle.block.specs.Parts.{MonoPart, StereoPart, Slow};
 use mixer::Mixer;
 
 mod ends;

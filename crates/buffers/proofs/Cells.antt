@@ -15,10 +15,11 @@ use Rattle.laws.proofs.Lists.{drop-take-cons, drop-take-end}
 use Rattle.output.specs.Duty.{mapped}
 use Rattle.output.specs.declared.Mapped.{Mapped}
 use Rattle.output.specs.declared.PwmMapper.{PwmMapper}
-use Rattle.buffers.specs.Buffers.{toI8, pairs, mappedOver, dutiesOver}
-use Rattle.buffers.specs.Shapes.{wide, laid, Laid}
+use Rattle.buffers.specs.Buffers.{toI8}
+use Rattle.buffers.specs.Shapes.{wide}
 use Rattle.buffers.specs.declared.Shape.{Shape}
 use Rattle.buffers.specs.declared.Shape.the-variants.{Once, Doubled, Sides}
+use Rattle.buffers.specs.Blocks.{pairs, mappedOver, dutiesOver, laid, Laid}
 
 module _ {A : Type 0} (whole out₀ : List A) (at : ℕ) where
   -- of the cells to store from `at` on, those that are left go to cell i and after it

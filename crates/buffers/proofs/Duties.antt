@@ -15,9 +15,8 @@ use Rattle.frame.specs.Fades.{fadeEnded, fadeAt, nextT, advanced}
 use Rattle.frame.specs.Frames.{enveloped, sampled, monoMix, withMapper, monoGiven, monoFrame, dutyFrame}
 use Rattle.frame.specs.Runs.{monoStep, dutyStep, duties}
 use Rattle.frame.specs.declared.MonoFrame.{MonoFrame}
-use Rattle.buffers.specs.Buffers.{mappedOver, dutiesOver}
-use Rattle.buffers.specs.Shapes.{row}
 use Rattle.buffers.proofs.Sounds.{pcm}
+use Rattle.buffers.specs.Blocks.{mappedOver, dutiesOver, row}
 
 -- ---- a mono frame with another mapper
 abbrev mapperIn : MonoFrame → PwmMapper → MonoFrame

@@ -3,11 +3,9 @@
 --     Cells    cells stored one after another
 --     Fill     blocks after the frames so far, of any box
 --     Sounds   the same of this box's shapes and levels
---     Periods  what an accepted period tells
 --     Duties   duties are the mapper over the frames' samples
 pub mod Parts
 mod Cells
 mod Fill
 mod Sounds
-mod Periods
 mod Duties

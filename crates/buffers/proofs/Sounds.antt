@@ -12,14 +12,15 @@ use Rattle.frame.specs.Frames.{monoFrame, stereoFrame}
 use Rattle.frame.specs.Runs.{monoStep, stereoStep}
 use Rattle.mixer.specs.Mixers.{Valid}
 use Rattle.mixer.specs.declared.Mixer.{Mixer}
-use Rattle.buffers.specs.Buffers.{pairs, once, toI8, FillsAll}
-use Rattle.buffers.specs.Shapes.{wide, framesIn, cellsIn, stepOf, rawOf, levelStep, levelOf, FillsBy, Span, Laid, Heard, laid, row}
+use Rattle.buffers.specs.Buffers.{once, toI8, FillsAll}
+use Rattle.buffers.specs.Shapes.{wide, framesIn, cellsIn, frameStep, rawOf, levelStep, levelOf, FillsBy}
 use Rattle.buffers.specs.declared.Level.{Level}
 use Rattle.buffers.specs.declared.Level.the-variants.{Duty, U12, U16}
 use Rattle.buffers.specs.declared.Shape.{Shape}
 use Rattle.buffers.specs.declared.Shape.the-variants.{Once, Doubled, Sides}
 use Rattle.buffers.proofs.Cells.{span-small}
 use Rattle.buffers.proofs.Fill.{Filling, filling-start, filling-long, filling-turn, filling-end, map-given}
+use Rattle.buffers.specs.Blocks.{pairs, Span, Laid, Heard, laid, row}
 
 module _ (step : Mixer → Mixer) (sample : Mixer → ℤ) where
   length-row : (n : ℕ) (s : Mixer) → length (row step sample n s) ≡ n
@@ -52,7 +53,7 @@ pcm m = monoFrame m .pcm
 pub once-cells : {B : Type 0} (f : ℤ → B) (n : ℕ) (s : Mixer) (rest : List ℤ) {block : List ℤ} → n ≤ 256 → block ≡ row monoStep pcm (min n 256) s ++ rest → map f (take n block) ≡ given monoStep (once f) n s
 once-cells f n s rest h e = rw (block-cells monoStep pcm n s rest h e) (map-given f monoStep (λ m. pcm m ∷ []) n s)
 
-heard-laid : (z : Shape) (n : ℕ) (m : Mixer) (left right : List ℤ) → Heard z n m left right → laid z (take n left) (take n right) ≡ given (stepOf z) (rawOf z) n m
+heard-laid : (z : Shape) (n : ℕ) (m : Mixer) (left right : List ℤ) → Heard z n m left right → laid z (take n left) (take n right) ≡ given (frameStep z) (rawOf z) n m
 heard-laid Once n m left right h = rw h (map-given toI8 monoStep (λ m. pcm m ∷ []) n m)
 heard-laid Doubled n m left right h = rw h (pairs-given monoStep pcm pcm n m)
 heard-laid Sides n m left right h = rw (h .0, h .1) (pairs-given stereoStep (λ m. stereoFrame m .left) (λ m. stereoFrame m .right) n m)
@@ -71,7 +72,7 @@ shape-wide f Sides m = refl
 module _ {A : Type 0} (f : ℤ → A) (shape : Shape) (m : Mixer) (out₀ : List A) where
   -- blocks so far, and how many cells the next has
   pub record Shaping (s : Mixer) (at k : ℕ) (out : List A) : Type 0 where
-    pub filling : Filling Valid (stepOf shape) (λ m. map f (rawOf shape m)) (wide shape) m out₀ s at out
+    pub filling : Filling Valid (frameStep shape) (λ m. map f (rawOf shape m)) (wide shape) m out₀ s at out
     pub span : Span shape (length out₀ - at) k
 
   pub shape-start : {k : ℕ} → Valid m → Span shape (length out₀) k → Shaping m 0 k out₀
@@ -82,14 +83,14 @@ module _ {A : Type 0} (f : ℤ → A) (shape : Shape) (m : Mixer) (out₀ : List
   pub shape-fits : {s : Mixer} {at k : ℕ} {out : List A} → Shaping s at k out → (at + k ≤ length out₀) × (k ≤ 512) × (length out ≡ length out₀)
   shape-fits {k = k} h = (omega (arith, h .span .fits, h .filling .fits), span-small shape (framesIn shape k) k (h .span .whole) (h .span .few), filling-long _ _ _ _ _ _ (h .filling))
 
-  pub shape-turn : {s t : Mixer} {at k j : ℕ} {out is : List A} {samples : List ℤ} (left right : List ℤ) → Shaping s at k out → Made Valid (after (stepOf shape) (framesIn shape k) s) t × Heard shape (framesIn shape k) s left right
+  pub shape-turn : {s t : Mixer} {at k j : ℕ} {out is : List A} {samples : List ℤ} (left right : List ℤ) → Shaping s at k out → Made Valid (after (frameStep shape) (framesIn shape k) s) t × Heard shape (framesIn shape k) s left right
       → Laid shape (framesIn shape k) k left right samples
       → is ≡ sets out at (map f (take k samples)) → Span shape (length out₀ - (at + k)) j → Shaping t (at + k) j is
   shape-turn {s} {k = k} left right h b l laid next =
       let n = framesIn shape k in
       record {
-        filling = filling-turn Valid (stepOf shape) (λ m. map f (rawOf shape m)) (wide shape) m out₀ (shape-wide f shape) n (h .filling) (b .0)
-            (ap (map f) (l .gave ∙ heard-laid shape n s left right (b .1)) ∙ map-given f (stepOf shape) (rawOf shape) n s) (h .span .whole) (shape-fits h .0) laid;
+        filling = filling-turn Valid (frameStep shape) (λ m. map f (rawOf shape m)) (wide shape) m out₀ (shape-wide f shape) n (h .filling) (b .0)
+            (ap (map f) (l .gave ∙ heard-laid shape n s left right (b .1)) ∙ map-given f (frameStep shape) (rawOf shape) n s) (h .span .whole) (shape-fits h .0) laid;
         span = next;
       }
 
@@ -97,7 +98,7 @@ module _ {A : Type 0} (f : ℤ → A) (shape : Shape) (m : Mixer) (out₀ : List
   shape-end {s} {at} h e =
       let g = h .filling in
       let c = shape-counts shape (g .frames) at (length out₀) (g .count) (g .fits) (h .span .none e) in
-      record { mixer = rw (c .0) at (g .state); count = c .1; content = rw (c .0, c .1) at (filling-end Valid (stepOf shape) (λ m. map f (rawOf shape m)) (wide shape) m out₀ (shape-wide f shape) g) }
+      record { mixer = rw (c .0) at (g .state); count = c .1; content = rw (c .0, c .1) at (filling-end Valid (frameStep shape) (λ m. map f (rawOf shape m)) (wide shape) m out₀ (shape-wide f shape) g) }
 
 -- ---- blocks by level
 level-wide : (l : Level) (m : Mixer) → length (levelOf l m) ≡ 1

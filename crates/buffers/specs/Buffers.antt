@@ -9,9 +9,7 @@ use Rattle.laws.specs.Made.{Made}
 use Rattle.laws.specs.Runs.{after, given}
 use Rattle.mixer.specs.Mixers.{Valid}
 use Rattle.mixer.specs.declared.Mixer.{Mixer}
-use Rattle.output.specs.Duty.{mapped}
 use Rattle.output.specs.Levels.{raised}
-use Rattle.output.specs.declared.PwmMapper.{PwmMapper}
 use Rattle.buffers.specs.declared.Filled.{Filled}
 
 module _ {A : Type 0} (step : Mixer → Mixer) (gives : Mixer → List A) where
@@ -60,20 +58,3 @@ module _ {A : Type 0} (scale : ℤ → A) where
   -- left and right
   abbrev pub sides : Mixer → List A
   sides m = scale (stereoFrame m .left) ∷ scale (stereoFrame m .right) ∷ []
-
--- ---- a block's samples as cells
-
--- left before right, each scaled
-unfoldable pub pairs : {A : Type 0} → (ℤ → A) → List ℤ → List ℤ → List A
-pairs scale [] rs = []
-pairs scale (l ∷ ls) [] = []
-pairs scale (l ∷ ls) (r ∷ rs) = scale l ∷ scale r ∷ pairs scale ls rs
-
--- a mapper over samples, one after another: the mapper after them, and their duties
-unfoldable pub mappedOver : ℕ → PwmMapper → List ℤ → PwmMapper
-mappedOver period p [] = p
-mappedOver period p (s ∷ l) = mappedOver period (mapped p s period .mapper) l
-
-unfoldable pub dutiesOver : ℕ → PwmMapper → List ℤ → List ℕ
-dutiesOver period p [] = []
-dutiesOver period p (s ∷ l) = let d = mapped p s period in d .duty ∷ dutiesOver period (d .mapper) l

@@ -8,7 +8,8 @@ ghost use Rattle.laws.specs.Runs.{after, given};
 ghost use Rattle.mixer.specs.Mixers.{Valid};
 ghost use Rattle.output.specs.Levels.{raised};
 ghost use Rattle.buffers.specs.Buffers.{FillsAll, toI8, toI16, toI32};
-ghost use Rattle.buffers.specs.Shapes.{framesIn, stepOf, FillsBy, levelStep, levelOf, Heard};
+ghost use Rattle.buffers.specs.Shapes.{framesIn, frameStep, FillsBy, levelStep, levelOf};
+ghost use Rattle.buffers.specs.Blocks.{Heard};
 use block::mono_block;
 use block::stereo_block;
 use mixer::Mixer;
@@ -42,7 +43,7 @@ pub enum Level {
 fn sound(m: Mixer, shape: Shape, k: usize, left: &mut [i8; 256], right: &mut [i8; 256]) -> Mixer
     requires { ⌜ Valid m ⌝ }
     requires { ⌜ framesIn shape k ≤ 256 ⌝ }
-    ensures { λ r. ⌜ Made Valid (after (stepOf shape) (framesIn shape k) m) r × Heard shape (framesIn shape k) m (now (left .exit)) (now (right .exit)) ⌝ }
+    ensures { λ r. ⌜ Made Valid (after (frameStep shape) (framesIn shape k) m) r × Heard shape (framesIn shape k) m (now (left .exit)) (now (right .exit)) ⌝ }
 {
     match shape {
         Shape::Once => mono_block(m, k, left),

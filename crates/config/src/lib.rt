@@ -36,6 +36,13 @@ impl AudioConfig {
         )
     }
 
+    // The source's `Default`.
+    pub fn default() -> Self
+        ensures { λ r. ⌜ r ≡ defaultDuty ⌝ }
+    {
+        Self::default_duty()
+    }
+
     pub fn master_gain_q8(self, gain: u8) -> Self
         ensures { λ r. ⌜ r ≡ withMasterGain self gain ⌝ }
     {

@@ -7,24 +7,20 @@ use mathlib.Core.List.{List, [], _∷_, Perm}
 use mathlib.Core.Option.{Option, none, some, orElse}
 use lib.ListN.{length, take, drop, set, getElem?, take-append-drop}
 use lib.Seq.{take-set-lt, length-take-le}
+use Rattle.error.specs.Told.{Told, value, refused}
 use Rattle.allocate.specs.Allocation.{priorityOf, placeOf, chosen, allocated}
-use Rattle.allocate.specs.declared.Allocated.{Allocated}
-use Rattle.allocate.specs.declared.Allocated.the-variants as A
 use Rattle.allocate.proofs.Choice.{allocated-below}
 use Rattle.laws.proofs.Bools.{never}
 use Rattle.mixer.specs.Mixers.{Valid, voicesOf, withVoices}
 use Rattle.mixer.specs.declared.Mixer.{Mixer}
 use Rattle.mixer.specs.declared.VoiceStealingPolicy.the-variants as P
-use Rattle.play.specs.Plays.{playedBy, played}
-use Rattle.play.specs.declared.PlayOutcome.the-variants as O
+use Rattle.play.specs.Plays.{placedBy, toldPlay, playedAt, played}
 use Rattle.ranking.specs.Box as B
 use Rattle.ranking.specs.Demand.{Lawful, Demand}
 use Rattle.ranking.specs.Rule.{lowestPriority}
 use Rattle.ranking.proofs.Demand.{demand}
 use Rattle.ranking.proofs.Rule.{lowest-allowed}
 use Rattle.start.specs.Starts.{starts, requestStart, soundRequest}
-use Rattle.start.specs.declared.EntryStart.{EntryStart}
-use Rattle.start.specs.declared.EntryStart.the-variants as S
 use Rattle.start.specs.declared.Request.{Request}
 use Rattle.start.proofs.Laws.{Heard, request-heard}
 use Rattle.voice.specs.Voices.{audible, silentVoice}
@@ -34,9 +30,9 @@ use Rattle.engine.specs.Requests.{playing, sound, placeGiven, handedOut,
 use Rattle.engine.specs.declared.AudioEngine.{AudioEngine}
 
 -- the voice of a start; any voice where there is none
-voiceOr : EntryStart → Voice
-voiceOr (S.Voice v) = v
-voiceOr (S.Refused e) = silentVoice 0
+voiceOr : Told Voice → Voice
+voiceOr (value v) = v
+voiceOr (refused e) = silentVoice 0
 
 -- what the theorem on boxes asks of the engine
 box : AudioEngine → List ℕ → B.Box Voice Request
@@ -50,10 +46,10 @@ box e bytes =
       choice = lowestPriority audible priorityOf;
     }
 
-sounds : (s : EntryStart) (p : ℕ) → Heard p s → starts s ≡ true → (audible (voiceOr s) ≡ true) × (voiceOr s .priority ≡ p)
+sounds : (s : Told Voice) (p : ℕ) → Heard p s → starts s ≡ true → (audible (voiceOr s) ≡ true) × (voiceOr s .priority ≡ p)
 unfolding voiceOr
-sounds (S.Voice v) p h e = h
-sounds (S.Refused r) p h e = never e
+sounds (value v) p h e = h
+sounds (refused r) p h e = never e
 
 lawful : (e : AudioEngine) (bytes : List ℕ) → Lawful (box e bytes)
 unfolding box soundRequest
@@ -63,25 +59,25 @@ lawful e bytes =
     record { allows = lowest-allowed audible priorityOf; sounds = λ r h. by r h .0; keeps = λ r h. by r h .1 }
 
 -- ---- one request, by the voice that is chosen and the start that it asks for
-handed-by : (m : Mixer) (o : Option ℕ) (s : EntryStart) → placeGiven (playedBy m (placeOf o) s .outcome) ≡ cond (starts s) o none
-handed-by m none (S.Voice v) = refl
-handed-by m none (S.Refused e) = refl
-handed-by m (some i) (S.Voice v) = refl
-handed-by m (some i) (S.Refused e) = refl
+handed-by : (m : Mixer) (o : Option ℕ) (s : Told Voice) → placeGiven (toldPlay (playedAt m (placedBy (placeOf o) s) .outcome)) ≡ cond (starts s) o none
+handed-by m none (value v) = refl
+handed-by m none (refused e) = refl
+handed-by m (some i) (value v) = refl
+handed-by m (some i) (refused e) = refl
 
-after-by : (m : Mixer) (o : Option ℕ) (s : EntryStart) → ((i : ℕ) → o ≡ some i → i < m .n)
-    → voicesOf (playedBy m (placeOf o) s .mixer) ≡ B.stored (voicesOf m) (cond (starts s) o none) (voiceOr s)
+after-by : (m : Mixer) (o : Option ℕ) (s : Told Voice) → ((i : ℕ) → o ≡ some i → i < m .n)
+    → voicesOf (playedAt m (placedBy (placeOf o) s) .mixer) ≡ B.stored (voicesOf m) (cond (starts s) o none) (voiceOr s)
 unfolding voiceOr
-after-by m none (S.Voice v) h = refl
-after-by m none (S.Refused e) h = refl
-after-by m (some i) (S.Voice v) h = take-set-lt (m .n) (m .voices) i v (h i refl)
-after-by m (some i) (S.Refused e) h = refl
+after-by m none (value v) h = refl
+after-by m none (refused e) h = refl
+after-by m (some i) (value v) h = take-set-lt (m .n) (m .voices) i v (h i refl)
+after-by m (some i) (refused e) h = refl
 
 -- nothing but voices changes
-rest-by : (m : Mixer) (a : Allocated) (s : EntryStart) → playedBy m a s .mixer ≡ withVoices m (playedBy m a s .mixer .voices)
-rest-by m A.None s = refl
-rest-by m (A.Voice i) (S.Voice v) = refl
-rest-by m (A.Voice i) (S.Refused e) = refl
+rest-by : (m : Mixer) (a : Told ℕ) (s : Told Voice) → playedAt m (placedBy a s) .mixer ≡ withVoices m (playedAt m (placedBy a s) .mixer .voices)
+rest-by m (refused n) s = refl
+rest-by m (value i) (value v) = refl
+rest-by m (value i) (refused e) = refl
 
 rest-one : (m : Mixer) (bytes : List ℕ) (r : Request) → played m bytes r .mixer ≡ withVoices m (played m bytes r .mixer .voices)
 unfolding played
@@ -139,9 +135,9 @@ started-by : (e : AudioEngine) (bytes : List ℕ) (r : Request) (v : Option Voic
 unfolding soundRequest voiceOr
 started-by e bytes r v h k = by-start (requestStart (e .state .bank) bytes r) refl h k
   where
-    by-start : (s : EntryStart) → requestStart (e .state .bank) bytes r ≡ s → starts s ≡ true → v ≡ some (voiceOr s) → StartedBy e bytes r v
-    by-start (S.Voice w) g h k = record { voice = w; start = g; same = k }
-    by-start (S.Refused f) g h k = never h
+    by-start : (s : Told Voice) → requestStart (e .state .bank) bytes r ≡ s → starts s ≡ true → v ≡ some (voiceOr s) → StartedBy e bytes r v
+    by-start (value w) g h k = record { voice = w; start = g; same = k }
+    by-start (refused f) g h k = never h
 
 pub demand-3 : (e : AudioEngine) (bytes : List ℕ) (rs : List Request) → ValidEngine e → Ranks e → Demand3 e bytes rs (playedAll e bytes rs)
 unfolding box
@@ -161,10 +157,10 @@ demand-3 e bytes rs h p =
     }
 
 -- "A request is sound if the same bank and a free voice would accept it": where the rule gives a voice, to be accepted is to be sound
-pub sound-accepted : (e : AudioEngine) (bytes : List ℕ) (r : Request) (i : ℕ) → allocated (e .state) (r .priority) ≡ A.Voice i → accepted e bytes r ≡ sound e bytes r
+pub sound-accepted : (e : AudioEngine) (bytes : List ℕ) (r : Request) (i : ℕ) → allocated (e .state) (r .priority) ≡ value i → accepted e bytes r ≡ sound e bytes r
 unfolding played soundRequest
 sound-accepted e bytes r i h = rw h (by-start (requestStart (e .state .bank) bytes r))
   where
-    by-start : (s : EntryStart) → isPlace (placeGiven (playedBy (e .state) (A.Voice i) s .outcome)) ≡ starts s
-    by-start (S.Voice v) = refl
-    by-start (S.Refused f) = refl
+    by-start : (s : Told Voice) → isPlace (placeGiven (toldPlay (playedAt (e .state) (placedBy (value i) s) .outcome))) ≡ starts s
+    by-start (value v) = refl
+    by-start (refused f) = refl

@@ -5,17 +5,15 @@ use mathlib.Core.Bool.{Bool, true, false, cond}
 use mathlib.Core.List.{List, [], _∷_, _++_, map, Perm}
 use mathlib.Core.Option.{Option, none, some, orElse}
 use lib.ListN.{length, take, getD, getElem?}
+use Rattle.error.specs.Told.{Told, value, refused}
 use Rattle.allocate.specs.Allocation.{priorityOf}
 use Rattle.mixer.specs.Mixers.{voicesOf, withVoices}
 use Rattle.mixer.specs.declared.VoiceStealingPolicy.the-variants as P
-use Rattle.play.specs.Plays.{played}
-use Rattle.play.specs.declared.PlayOutcome.{PlayOutcome}
-use Rattle.play.specs.declared.PlayOutcome.the-variants as O
+use Rattle.play.specs.Plays.{played, toldPlay}
 use Rattle.ranking.specs.Box.{handedAt}
 use Rattle.ranking.specs.Falling.{falling}
 use Rattle.laws.specs.Lists.{only}
 use Rattle.start.specs.Starts.{requestStart, soundRequest}
-use Rattle.start.specs.declared.EntryStart.the-variants as S
 use Rattle.start.specs.declared.Request.{Request}
 use Rattle.voice.specs.Voices.{audible}
 use Rattle.voice.specs.declared.Voice.{Voice}
@@ -36,15 +34,15 @@ playing e bytes r = playedBox (played (e .state) bytes r)
 abbrev pub sound : AudioEngine → List ℕ → Request → Bool
 sound e bytes r = soundRequest (e .state .bank) bytes r
 
--- the voice of an outcome, or none for a refusal
-abbrev pub placeGiven : PlayOutcome → Option ℕ
-placeGiven (O.Voice i) = some i
-placeGiven (O.Refused e) = none
+-- the voice that is told, or none for a refusal
+abbrev pub placeGiven : Told ℕ → Option ℕ
+placeGiven (value i) = some i
+placeGiven (refused n) = none
 
 -- "It is accepted where it gets no refusal number; the voice that the rule above gives it, in the engine that it gets, is then handed
 -- out."
 abbrev pub handedOut : AudioEngine → List ℕ → Request → Option ℕ
-handedOut e bytes r = placeGiven (playing e bytes r .outcome)
+handedOut e bytes r = placeGiven (toldPlay (playing e bytes r .outcome))
 
 abbrev pub isPlace : Option ℕ → Bool
 isPlace none = false
@@ -74,7 +72,7 @@ asks e bytes rs = map (λ r. r .priority) (only (sound e bytes) rs)
 -- a voice as "01's entry start makes it" for a request
 pub record StartedBy (e : AudioEngine) (bytes : List ℕ) (r : Request) (v : Option Voice) : Type 0 where
   pub voice : Voice
-  pub start : requestStart (e .state .bank) bytes r ≡ S.Voice voice
+  pub start : requestStart (e .state .bank) bytes r ≡ value voice
   pub same : v ≡ some voice
 
 -- What demand 3 says of the engine e before the requests and the engine after them.
@@ -98,20 +96,20 @@ Ranks e = e .state .«stealing_policy» ≡ P.LowestPriorityOldest
 -- ---- a list of requests in a slice of bytes: ten bytes each, as record 13 of the replay format has them without its code
 
 -- a big-endian number of two bytes
-abbrev pub wideAt : List ℕ → ℕ → ℕ
-wideAt l k = 256 * getD l k 0 + getD l (k + 1) 0
+abbrev pub big16At : List ℕ → ℕ → ℕ
+big16At l k = 256 * getD l k 0 + getD l (k + 1) 0
 
 -- id (2), attack ms (2), decay ms (2), sustain (1), release ms (2), priority (1)
 unfoldable pub requestAt : List ℕ → ℕ → Request
 requestAt l k =
     record {
-      id = wideAt l k;
+      id = big16At l k;
       adsr =
           record {
-            «attack_ms» = wideAt l (k + 2);
-            «decay_ms» = wideAt l (k + 4);
+            «attack_ms» = big16At l (k + 2);
+            «decay_ms» = big16At l (k + 4);
             «sustain_q8» = getD l (k + 6) 0;
-            «release_ms» = wideAt l (k + 7);
+            «release_ms» = big16At l (k + 7);
           };
       priority = getD l (k + 9) 0;
     }

@@ -2,8 +2,9 @@
 ghost use mathlib.Core.Path.{_≡_};
 ghost use lib.ListN.{length};
 ghost use Rattle.laws.specs.Made.{Made};
-ghost use Rattle.allocate.specs.Allocation.{allocated};
-ghost use Rattle.bank.specs.Banks.{payloadGiven, payloadPart};
+ghost use Rattle.allocate.specs.Allocation.{allocated, toldPlace};
+ghost use Rattle.bank.specs.Banks.{payloadGiven, toldPayload, payloadPart};
+ghost use Rattle.bank.specs.Entries.{toldEntry};
 ghost use Rattle.bank.specs.Search.{foundGiven};
 ghost use Rattle.mixer.specs.Mixers as M;
 ghost use Rattle.play.specs.Plays.{played, toned, polyBleped};
@@ -25,6 +26,7 @@ use start::Request;
 use tone::Waveform;
 
 pub mod fills;
+mod opening;
 mod requests;
 pub mod ticks;
 
@@ -161,14 +163,15 @@ impl AudioEngine {
 
     pub fn allocate_voice(self, priority: u8) -> Allocated
         requires { ⌜ ValidEngine self ⌝ }
-        ensures { λ r. ⌜ r ≡ allocated (self .state) priority ⌝ }
+        ensures { λ r. ⌜ toldPlace r ≡ allocated (self .state) priority ⌝ }
     {
         let m = self.state;
         allocate::allocate_voice(m, priority)
     }
 
     pub fn find_by_id(self, bytes: &[u8], id: u16) -> EntryRead
-        ensures { λ r. ⌜ r ≡ foundGiven (self .state .bank) (now (bytes .entry)) id ⌝ }
+        requires { ⌜ ValidEngine self ⌝ }
+        ensures { λ r. ⌜ toldEntry r ≡ foundGiven (self .state .bank) (now (bytes .entry)) id ⌝ }
     {
         let m = self.state;
         let bank = m.bank;
@@ -176,7 +179,7 @@ impl AudioEngine {
     }
 
     pub fn payload_number(self, bytes: &[u8], offset: u32, len: u32) -> PayloadRead
-        ensures { λ r. ⌜ r ≡ payloadGiven (self .state .bank) (now (bytes .entry)) offset len ⌝ }
+        ensures { λ r. ⌜ toldPayload r ≡ payloadGiven (self .state .bank) (now (bytes .entry)) offset len ⌝ }
     {
         let m = self.state;
         let bank = m.bank;

@@ -3,7 +3,7 @@ ghost use mathlib.Core.Path.{_≡_};
 ghost use Prim.Native.Nat.{_+_, _≤_};
 ghost use lib.ListN.{length};
 ghost use Rattle.engine.specs.Engines.{ValidEngine};
-ghost use Rattle.engine.specs.Requests.{wideAt, requestAt, PlaysAll};
+ghost use Rattle.engine.specs.Requests.{big16At, requestAt, PlaysAll};
 use crate::AudioEngine;
 use allocate::ranks::rank;
 use allocate::ranks::ranks_of;
@@ -12,9 +12,9 @@ use play::places::Placed;
 use play::places::place;
 use start::Request;
 
-fn wide_at(l: &[u8], k: usize) -> u16
+fn big16_at(l: &[u8], k: usize) -> u16
     requires { ⌜ k + 2 ≤ length (now l) ⌝ }
-    ensures { λ r. ⌜ r ≡ wideAt (now (l .entry)) k ⌝ }
+    ensures { λ r. ⌜ r ≡ big16At (now (l .entry)) k ⌝ }
 {
     256 * (l[k] as u16) + (l[k + 1] as u16)
 }
@@ -24,13 +24,13 @@ fn request_at(l: &[u8], k: usize) -> Request
     ensures { λ r. ⌜ r ≡ requestAt (now (l .entry)) k ⌝ }
 {
     let adsr = AdsrSpec {
-        attack_ms: wide_at(l, k + 2),
-        decay_ms: wide_at(l, k + 4),
+        attack_ms: big16_at(l, k + 2),
+        decay_ms: big16_at(l, k + 4),
         sustain_q8: l[k + 6],
-        release_ms: wide_at(l, k + 7),
+        release_ms: big16_at(l, k + 7),
     };
     Request {
-        id: wide_at(l, k),
+        id: big16_at(l, k),
         adsr,
         priority: l[k + 9],
     }

@@ -15,6 +15,10 @@ use Rattle.envelope.specs.declared.AdsrPhase.the-variants as P
 abbrev pub clickSpec : AdsrSpec
 clickSpec = record { «attack_ms» = 2; «decay_ms» = 40; «sustain_q8» = 0; «release_ms» = 10 }
 
+-- envelope.rs: what stands where none is chosen
+abbrev pub defaultSpec : AdsrSpec
+defaultSpec = record { «attack_ms» = 0; «decay_ms» = 0; «sustain_q8» = 0; «release_ms» = 0 }
+
 -- the source's other envelope
 abbrev pub padSpec : AdsrSpec
 padSpec = record { «attack_ms» = 5; «decay_ms» = 80; «sustain_q8» = 200; «release_ms» = 120 }

@@ -1,4 +1,4 @@
--- A block of ticks, one after another as document 01 counts them. Assumes nothing.
+-- Inner: a block of ticks, one after another as document 01 counts them. Assumes nothing.
 use Prim.Native.Nat.{ℕ, _+_, _<_}
 use mathlib.Core.Path.{_≡_}
 use mathlib.Core.Bool.{true}

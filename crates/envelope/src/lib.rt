@@ -2,9 +2,10 @@
 ghost use mathlib.Core.Path.{_≡_};
 ghost use Prim.Native.Nat.{_<_, _≤_, _*_, _/_};
 ghost use Rattle.laws.specs.Made.{Made};
+ghost use Rattle.error.specs.Told.{Answered};
 ghost use Rattle.laws.specs.Durations.{samplesOf};
-ghost use Rattle.envelope.specs.Adsrs.{Valid, clickSpec, padSpec, idleAdsr, triggered, released, ticked, beganDecay, sustained, ended, advancedToward, nextLevel, active};
-ghost use Rattle.envelope.specs.Alone.{ValidEnvelope, OpenedAs, triggeredEnvelope, releasedEnvelope, tickedEnvelope};
+ghost use Rattle.envelope.specs.Adsrs.{Valid, clickSpec, defaultSpec, padSpec, idleAdsr, triggered, released, ticked, beganDecay, sustained, ended, advancedToward, nextLevel, active};
+ghost use Rattle.envelope.specs.Alone.{ValidEnvelope, opened, toldOpened, triggeredEnvelope, releasedEnvelope, tickedEnvelope};
 use error::AudioError;
 
 mod blocks;
@@ -24,8 +25,20 @@ impl AdsrSpec {
         AdsrSpec {
             attack_ms: 2,
             decay_ms: 40,
-            sustain_q8: 0,
+            sustain_q8: 0, // it rests at level 0
             release_ms: 10,
+        }
+    }
+
+    // The source's `Default`: no phase lasts.
+    pub fn default() -> AdsrSpec
+        ensures { λ r. ⌜ r ≡ defaultSpec ⌝ }
+    {
+        AdsrSpec {
+            attack_ms: 0,
+            decay_ms: 0,
+            sustain_q8: 0,
+            release_ms: 0,
         }
     }
 
@@ -283,7 +296,7 @@ pub enum Opened {
 
 impl Envelope {
     pub fn open(spec: AdsrSpec, sample_rate_hz: u32) -> Opened
-        ensures { λ r. ⌜ OpenedAs spec «sample_rate_hz» r ⌝ }
+        ensures { λ r. ⌜ Answered toldOpened ValidEnvelope (opened spec «sample_rate_hz») r ⌝ }
     {
         if sample_rate_hz > 65537 {
             Opened::Refused(AudioError::BadRate)

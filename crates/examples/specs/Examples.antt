@@ -3,7 +3,7 @@ use Prim.Native.Nat.{ℕ, zero, suc}
 use mathlib.Core.Path.{_≡_}
 use mathlib.Core.List.{List, [], _∷_, map}
 use mathlib.Core.Option.{Option, some}
-use lib.IntN.{ℤ, pos, negsuc}
+use lib.IntN.{ℤ, pos}
 use Rattle.envelope.specs.declared.AdsrSpec.{AdsrSpec}
 use Rattle.envelope.specs.declared.Adsr.{Adsr}
 use Rattle.envelope.specs.Adsrs.{idleAdsr, triggered, ticked}
@@ -14,6 +14,7 @@ use Rattle.output.specs.Duty.{duty}
 use Rattle.output.specs.declared.DutyMode.the-variants as D
 use Rattle.config.specs.Config.{configured}
 use Rattle.envelope.specs.Adsrs.{clickSpec}
+use Rattle.laws.specs.Whole.{neg}
 use Rattle.mixer.specs.Mixers.{opened, banked}
 use Rattle.mixer.specs.declared.VoiceStealingPolicy.the-variants as P
 use Rattle.ranking.specs.Falling.{falling}
@@ -57,19 +58,19 @@ pub record Examples : Type 0 where
   -- "attack of 4 samples: 63, 159, 231, 255", then "decay of 4 from 255 to 0: 192, 96, 24, 0"
   pub envelope : levels 8 (triggered (idleAdsr fours 1000)) ≡ 63 ∷ 159 ∷ 231 ∷ 255 ∷ 192 ∷ 96 ∷ 24 ∷ 0 ∷ []
   -- "sine 0, 64, 192, 255: 0, 63, −63, 0"
-  pub sines : map sine (0 ∷ 64 ∷ 192 ∷ 255 ∷ []) ≡ pos 0 ∷ pos 63 ∷ negsuc 62 ∷ pos 0 ∷ []
+  pub sines : map sine (0 ∷ 64 ∷ 192 ∷ 255 ∷ []) ≡ pos 0 ∷ pos 63 ∷ neg 63 ∷ pos 0 ∷ []
   -- "increment 1,000 Hz at 8,000: 536,870,912"
   pub increments : increment 1000 8000 ≡ 536870912
   -- "first FM sample, depth 72: 78", whatever the carrier, the ratio and the rate
   pub fm : (carrier ratio rate : ℕ) → fmSample (startedFm carrier ratio 72 rate) ≡ pos 78
   -- "gain 255 on 127 and −127: 126, −127"
-  pub gain : map (λ (s : ℤ). gained s 255) (pos 127 ∷ negsuc 126 ∷ []) ≡ pos 126 ∷ negsuc 126 ∷ []
+  pub gain : map (λ (s : ℤ). gained s 255) (pos 127 ∷ neg 127 ∷ []) ≡ pos 126 ∷ neg 127 ∷ []
   -- "limiter 96, 97, 127, −128: 96, 96, 111, −112"
-  pub limiter : map limited (pos 96 ∷ pos 97 ∷ pos 127 ∷ negsuc 127 ∷ []) ≡ pos 96 ∷ pos 96 ∷ pos 111 ∷ negsuc 111 ∷ []
+  pub limiter : map limited (pos 96 ∷ pos 97 ∷ pos 127 ∷ neg 128 ∷ []) ≡ pos 96 ∷ pos 96 ∷ pos 111 ∷ neg 112 ∷ []
   -- "pan 0, 128, 129: (255, 0), (255, 255), (252, 255)"
   pub pan : map panGains (0 ∷ 128 ∷ 129 ∷ []) ≡ gains 255 0 ∷ gains 255 255 ∷ gains 252 255 ∷ []
   -- "duty, period 1,000, for 127, 0, −128: 999, 500, 1"
-  pub duties : map (λ (s : ℤ). duty s 1000) (pos 127 ∷ pos 0 ∷ negsuc 127 ∷ []) ≡ 999 ∷ 500 ∷ 1 ∷ []
+  pub duties : map (λ (s : ℤ). duty s 1000) (pos 127 ∷ pos 0 ∷ neg 128 ∷ []) ≡ 999 ∷ 500 ∷ 1 ∷ []
   -- "period 2: always 1"
   pub least : (s : ℤ) → duty s 2 ≡ 1
   -- "two silent voices, requests 3, 5, 5, 7: voices 0, 1, 0, 0; priorities 7 and 5 remain"

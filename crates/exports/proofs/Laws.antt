@@ -1,64 +1,77 @@
 -- What callers cite of a payload: where the number is 0, the part that is named is within the bytes. Assumes nothing.
 use Prim.Native.Nat.{ℕ, _+_, _≤_}
-use mathlib.Core.Path.{_≡_, refl, ap, _∙_}
+use mathlib.Core.Path.{_≡_, refl}
+use mathlib.Core.Bool.{Bool, true, false, cond}
 use mathlib.Core.List.{List, [], _∷_}
 use native.Mathlib.Omega.{arith}
+use lib.Dec.{eqb, ltb, leb}
 use lib.ListN.{length}
 use Rattle.bank.proofs.Laws.{whole-within}
-use Rattle.bank.specs.Banks.{bankOf}
-use Rattle.bank.specs.declared.BankRead.{BankRead}
-use Rattle.bank.specs.declared.BankRead.the-variants as K
+use Rattle.bank.specs.Banks.{bankOf, lentBank, payloadGiven}
+use Rattle.bank.specs.Entries.{placeOf}
 use Rattle.bank.specs.declared.BankSet.the-variants as B
-use Rattle.bank.specs.declared.EntryRead.{EntryRead}
-use Rattle.bank.specs.declared.EntryRead.the-variants as R
-use Rattle.bank.specs.declared.PayloadRead.{PayloadRead}
-use Rattle.bank.specs.declared.PayloadRead.the-variants as P
-use Rattle.error.specs.Numbers.{numberOf}
-use Rattle.error.specs.declared.AudioError.{AudioError}
-use Rattle.error.specs.declared.AudioError.the-variants as E
-use Rattle.exports.specs.Told.{Told, value, refused, numberIn}
-use Rattle.exports.specs.Banks.{payloadFrom, lookedUp, partTold, partOf}
+use Rattle.bank.specs.declared.EffectEntry.{EffectEntry}
+use Rattle.bank.specs.declared.SoundBank.{SoundBank}
+use Rattle.error.specs.Told.{Told, value, refused, andThen, passed, numberIn}
+use Rattle.error.proofs.Told.{value-is, not-refused}
+use Rattle.exports.specs.Banks.{lookedUp, partTold, partOf}
 
 -- 0 is no refusal's number
-number-not-0 : (e : AudioError) → numberOf e ≡ 0 → ⊥
-number-not-0 E.VoiceCount h = omega arith
-number-not-0 E.BadRate h = omega arith
-number-not-0 E.BadPeriod h = omega arith
-number-not-0 E.TruncatedBank h = omega arith
-number-not-0 E.VoiceBusy h = omega arith
-number-not-0 E.NoBank h = omega arith
-number-not-0 E.BankMismatch h = omega arith
-number-not-0 E.EffectNotFound h = omega arith
-number-not-0 E.InvalidEffectKind h = omega arith
-number-not-0 E.NotCarried h = omega arith
-number-not-0 E.BadSum h = omega arith
+abbrev Numbered : {A : Type 0} → Told A → Type 0
+Numbered (value x) = Unit {0}
+Numbered (refused n) = 1 ≤ n
+
+numbered-of : {A : Type 0} (b : Bool) (s t : Told A) → Numbered s → Numbered t → Numbered (cond b s t)
+numbered-of true s t h k = h
+numbered-of false s t h k = k
+
+numbered-then : {A C : Type 0} (t : Told A) (next : A → Told C) → Numbered t → ((x : A) → Numbered (next x)) → Numbered (andThen t next)
+numbered-then (value x) next h k = k x
+numbered-then (refused n) next h k = h
+
+bank-numbered : (rate count len : ℕ) → Numbered (bankOf rate count len)
+unfolding bankOf
+bank-numbered rate count len =
+    numbered-of (ltb 65537 rate) (refused 2) _ (omega arith) (numbered-of (ltb len (placeOf count)) (refused 4) _ (omega arith) tt)
+
+payload-numbered : (b : SoundBank) (bytes : List ℕ) (offset len : ℕ) → Numbered (payloadGiven (B.Bank b) bytes offset len)
+unfolding payloadGiven lentBank
+payload-numbered b bytes offset len =
+    numbered-then (cond (eqb (length bytes) (b .len)) (value b) (refused 7)) _
+    (numbered-of (eqb (length bytes) (b .len)) (value b) (refused 7) tt (omega arith))
+    (λ x. numbered-of (leb (offset + len) (length bytes)) passed (refused 4) tt (omega arith))
+
+is-passed : (t : Told (Unit {0})) → Numbered t → numberIn t ≡ 0 → t ≡ passed
+is-passed (value tt) h e = refl
+is-passed (refused n) h e = absurd (omega arith)
 
 module _ (bytes : List ℕ) (rate count : ℕ) where
-  from-inside : (k : BankRead) (offset len : ℕ) → payloadFrom k bytes offset len ≡ P.Whole → offset + len ≤ length bytes
-  from-inside (K.Refused e) offset len h = let z : _≡_ {A = ℕ} 0 1 = cc in absurd (omega arith)
-  from-inside (K.Bank b) offset len h = whole-within (B.Bank b) bytes offset len h
-
-  inside : (offset len : ℕ) → lookedUp bytes rate count offset len ≡ P.Whole → offset + len ≤ length bytes
+  inside : (offset len : ℕ) → lookedUp bytes rate count offset len ≡ passed → offset + len ≤ length bytes
   unfolding lookedUp
-  inside offset len h = from-inside (bankOf rate count (length bytes)) offset len h
+  inside offset len h = by-bank (bankOf rate count (length bytes)) h
+    where
+      by-bank : (t : Told SoundBank) → andThen t (λ b. payloadGiven (B.Bank b) bytes offset len) ≡ passed → offset + len ≤ length bytes
+      by-bank (refused n) h = let z : _≡_ {A = ℕ} 0 1 = cc in omega arith
+      by-bank (value b) h = whole-within (B.Bank b) bytes offset len h
 
-  is-whole : (offset len : ℕ) (p : PayloadRead) → numberIn (partTold offset len p) ≡ 0 → p ≡ P.Whole
-  is-whole offset len P.Whole h = refl
-  is-whole offset len (P.Refused e) h = absurd (number-not-0 e h)
+  looked-numbered : (offset len : ℕ) → Numbered (lookedUp bytes rate count offset len)
+  unfolding lookedUp
+  looked-numbered offset len =
+      numbered-then (bankOf rate count (length bytes)) _ (bank-numbered rate count (length bytes)) (λ b. payload-numbered b bytes offset len)
 
   -- of a lookup by offset and length
-  pub part-inside : (offset len : ℕ) → numberIn (partTold offset len (lookedUp bytes rate count offset len)) ≡ 0 → offset + len ≤ length bytes
-  part-inside offset len h = inside offset len (is-whole offset len (lookedUp bytes rate count offset len) h)
+  pub part-inside : (offset len : ℕ) → numberIn (lookedUp bytes rate count offset len) ≡ 0 → offset + len ≤ length bytes
+  part-inside offset len h = inside offset len (is-passed (lookedUp bytes rate count offset len) (looked-numbered offset len) h)
 
   -- of a lookup by id: the two numbers that are given
-  pub part-of-inside : (e : EntryRead) (offset len : ℕ) → partOf bytes rate count e ≡ value (offset ∷ len ∷ []) → offset + len ≤ length bytes
-  part-of-inside (R.Refused x) offset len h = let z : _≡_ {A = ℕ} 0 1 = cc in absurd (omega arith)
-  part-of-inside (R.Entry e) offset len h = by (lookedUp bytes rate count (e .offset) (e .len)) refl h
+  pub part-of-inside : (t : Told EffectEntry) (offset len : ℕ) → partOf bytes rate count t ≡ value (offset ∷ len ∷ []) → offset + len ≤ length bytes
+  part-of-inside (refused n) offset len h = let z : _≡_ {A = ℕ} 0 1 = cc in omega arith
+  part-of-inside (value e) offset len h = by (lookedUp bytes rate count (e .offset) (e .len)) refl h
     where
-      by : (p : PayloadRead) → lookedUp bytes rate count (e .offset) (e .len) ≡ p → partTold (e .offset) (e .len) p ≡ value (offset ∷ len ∷ []) → offset + len ≤ length bytes
-      by P.Whole k h =
+      by : (t : Told (Unit {0})) → lookedUp bytes rate count (e .offset) (e .len) ≡ t → partTold (e .offset) (e .len) t ≡ value (offset ∷ len ∷ []) → offset + len ≤ length bytes
+      by (value tt) k h =
           let a : e .offset ≡ offset = cc in
           let b : e .len ≡ len = cc in
           let i = inside (e .offset) (e .len) k in
           omega arith
-      by (P.Refused x) k h = let z : _≡_ {A = ℕ} 0 1 = cc in absurd (omega arith)
+      by (refused n) k h = let z : _≡_ {A = ℕ} 0 1 = cc in omega arith

@@ -2,13 +2,11 @@
 use Prim.Native.Nat.{ℕ}
 use mathlib.Core.List.{List, [], _∷_}
 use lib.ListN.{length}
-use Rattle.envelope.specs.Alone.{triggeredEnvelope, releasedEnvelope, tickedEnvelope}
+use Rattle.envelope.specs.Alone.{opened, triggeredEnvelope, releasedEnvelope, tickedEnvelope}
 use Rattle.envelope.specs.declared.AdsrSpec.{AdsrSpec}
 use Rattle.envelope.specs.declared.Envelope.{Envelope}
-use Rattle.envelope.specs.declared.Opened.{Opened}
-use Rattle.envelope.specs.declared.Opened.the-variants as O
 use Rattle.laws.specs.Runs.{after, given}
-use Rattle.exports.specs.Told.{Told, value, refused}
+use Rattle.error.specs.Told.{Told, value, andThen}
 
 abbrev pub specOf : ℕ → ℕ → ℕ → ℕ → AdsrSpec
 specOf attack decay sustain release =
@@ -24,8 +22,9 @@ levelsFrom n e = given tickedEnvelope nextLevel n e
 
 -- a triggered envelope's levels in each cell of the first buffer, and after its release in each of the second. "An envelope opened alone
 -- gets number 2 as an engine does."
-abbrev pub levelsTold : ℕ → ℕ → Opened → Told (List ℕ × List ℕ)
-levelsTold held left (O.Refused e) = refused e
-levelsTold held left (O.Envelope e) =
+abbrev pub levelsTold : ℕ → ℕ → AdsrSpec → ℕ → Told (List ℕ × List ℕ)
+levelsTold held left spec rate =
+    andThen (opened spec rate)
+    (λ e.
     let t = triggeredEnvelope e in
-    value (levelsFrom held t, levelsFrom left (releasedEnvelope (after tickedEnvelope held t)))
+    value (levelsFrom held t, levelsFrom left (releasedEnvelope (after tickedEnvelope held t))))

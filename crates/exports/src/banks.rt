@@ -1,6 +1,9 @@
 // A bank that is set for one call alone: its search and its payloads.
 ghost use mathlib.Core.Path.{_≡_};
-ghost use Rattle.exports.specs.Told.{numberIn, Answers};
+ghost use Rattle.error.specs.Told.{numberIn};
+ghost use Rattle.bank.specs.Banks.{toldPayload};
+ghost use Rattle.bank.specs.Entries.{toldEntry};
+ghost use Rattle.exports.specs.Told.{Answers};
 ghost use Rattle.exports.specs.Banks.{searched, entryCells, entryTold, lookedUp, partTold, partOf};
 use bank::BankRead;
 use bank::BankSet;
@@ -27,7 +30,7 @@ fn put_entry(e: EffectEntry, out: &mut [u32; 8])
 }
 
 fn search(bytes: &[u8], sample_rate_hz: u32, effect_count: u16, id: u16) -> EntryRead
-    ensures { λ r. ⌜ r ≡ searched (now (bytes .entry)) «sample_rate_hz» «effect_count» id ⌝ }
+    ensures { λ r. ⌜ toldEntry r ≡ searched (now (bytes .entry)) «sample_rate_hz» «effect_count» id ⌝ }
 {
     match SoundBank::new(sample_rate_hz, effect_count, bytes.len()) {
         BankRead::Refused(e) => EntryRead::Refused(e),
@@ -62,7 +65,7 @@ fn look_up(
     offset: u32,
     len: u32,
 ) -> PayloadRead
-    ensures { λ r. ⌜ r ≡ lookedUp (now (bytes .entry)) «sample_rate_hz» «effect_count» offset len ⌝ }
+    ensures { λ r. ⌜ toldPayload r ≡ lookedUp (now (bytes .entry)) «sample_rate_hz» «effect_count» offset len ⌝ }
 {
     match SoundBank::new(sample_rate_hz, effect_count, bytes.len()) {
         BankRead::Refused(e) => PayloadRead::Refused(e),
@@ -79,7 +82,7 @@ pub extern "C" fn birchjack_payload(
     offset: u32,
     len: u32,
 ) -> u8
-    ensures { λ r. ⌜ r ≡ numberIn (partTold offset len (lookedUp (now (bytes .entry)) «sample_rate_hz» «effect_count» offset len)) ⌝ }
+    ensures { λ r. ⌜ r ≡ numberIn (lookedUp (now (bytes .entry)) «sample_rate_hz» «effect_count» offset len) ⌝ }
 {
     match look_up(bytes, sample_rate_hz, effect_count, offset, len) {
         PayloadRead::Refused(e) => e.number(),
@@ -88,7 +91,7 @@ pub extern "C" fn birchjack_payload(
 }
 
 fn put_part(offset: u32, len: u32, read: PayloadRead, out: &mut [u32; 2]) -> u8
-    ensures { λ r. ⌜ Answers (partTold offset len read) (now (out .entry)) r (now (out .exit)) ⌝ }
+    ensures { λ r. ⌜ Answers (partTold offset len (toldPayload read)) (now (out .entry)) r (now (out .exit)) ⌝ }
 {
     match read {
         PayloadRead::Refused(e) => e.number(),

@@ -3,10 +3,8 @@ ghost use mathlib.Core.Path.{_≡_};
 ghost use Rattle.fixed.specs.Fixed.{increment, sine, toward, gained, panGains};
 ghost use Rattle.config.specs.Config.{fadeStep};
 ghost use Rattle.output.specs.Levels.{limitedBus};
-ghost use Rattle.output.specs.Duty.{periodRead};
 ghost use Rattle.exports.specs.Told.{Answers};
-ghost use Rattle.exports.specs.Leaves.{limitTold, dutyTold, stepTold, sidesOf};
-use config::FadeStep;
+ghost use Rattle.exports.specs.Leaves.{dutyTold, sidesOf};
 use output::Limited;
 use output::Period;
 use output::PeriodRead;
@@ -55,7 +53,7 @@ pub extern "C" fn birchjack_sine(index: u8) -> i8
 // The sum of the voices, limited; 11 outside −2,048..2,032.
 #[no_mangle]
 pub extern "C" fn birchjack_limit(sum: i32, out: &mut i8) -> u8
-    ensures { λ r. ⌜ Answers (limitTold (limitedBus sum)) (now (out .entry)) r (now (out .exit)) ⌝ }
+    ensures { λ r. ⌜ Answers (limitedBus sum) (now (out .entry)) r (now (out .exit)) ⌝ }
 {
     let limited = output::limit_bus(sum);
     match limited {
@@ -70,7 +68,7 @@ pub extern "C" fn birchjack_limit(sum: i32, out: &mut i8) -> u8
 // A sample's compare value in a period; 3 for a period below 2.
 #[no_mangle]
 pub extern "C" fn birchjack_duty_of(sample: i8, period: u16, out: &mut u16) -> u8
-    ensures { λ r. ⌜ Answers (dutyTold sample (periodRead period)) (now (out .entry)) r (now (out .exit)) ⌝ }
+    ensures { λ r. ⌜ Answers (dutyTold sample period) (now (out .entry)) r (now (out .exit)) ⌝ }
 {
     let read = Period::new(period);
     match read {
@@ -82,17 +80,10 @@ pub extern "C" fn birchjack_duty_of(sample: i8, period: u16, out: &mut u16) -> u
     }
 }
 
-// What a fade gains with each frame; 2 for a rate above 65,537.
+// What a fade gains with each frame.
 #[no_mangle]
-pub extern "C" fn birchjack_fade_step(duration_ms: u16, sample_rate_hz: u32, out: &mut u8) -> u8
-    ensures { λ r. ⌜ Answers (stepTold (fadeStep «duration_ms» «sample_rate_hz»)) (now (out .entry)) r (now (out .exit)) ⌝ }
+pub extern "C" fn birchjack_fade_step(duration_ms: u16, sample_rate_hz: u32) -> u8
+    ensures { λ r. ⌜ r ≡ fadeStep «duration_ms» «sample_rate_hz» ⌝ }
 {
-    let step = config::crossfade_step_q8(duration_ms, sample_rate_hz);
-    match step {
-        FadeStep::Step(n) => {
-            *out = n;
-            0
-        }
-        FadeStep::Refused(e) => e.number(),
-    }
+    config::crossfade_step_q8(duration_ms, sample_rate_hz)
 }

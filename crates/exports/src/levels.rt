@@ -3,7 +3,7 @@ ghost use mathlib.Core.Path.{_≡_};
 ghost use lib.ListN.{length};
 ghost use Rattle.laws.specs.Made.{Made};
 ghost use Rattle.laws.specs.Runs.{after};
-ghost use Rattle.envelope.specs.Alone.{ValidEnvelope, opened, tickedEnvelope};
+ghost use Rattle.envelope.specs.Alone.{ValidEnvelope, tickedEnvelope};
 ghost use Rattle.exports.specs.Told.{Answers};
 ghost use Rattle.exports.specs.Levels.{specOf, levelsFrom, levelsTold};
 use envelope::AdsrSpec;
@@ -38,7 +38,7 @@ pub extern "C" fn birchjack_envelope(
     held: &mut [u8],
     left: &mut [u8],
 ) -> u8
-    ensures { λ r. ⌜ Answers (levelsTold (length (now (held .entry))) (length (now (left .entry))) (opened (specOf «attack_ms» «decay_ms» «sustain_q8» «release_ms») «sample_rate_hz»)) (now (held .entry), now (left .entry)) r (now (held .exit), now (left .exit)) ⌝ }
+    ensures { λ r. ⌜ Answers (levelsTold (length (now (held .entry))) (length (now (left .entry))) (specOf «attack_ms» «decay_ms» «sustain_q8» «release_ms») «sample_rate_hz») (now (held .entry), now (left .entry)) r (now (held .exit), now (left .exit)) ⌝ }
 {
     let spec = AdsrSpec {
         attack_ms,

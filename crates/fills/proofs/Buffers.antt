@@ -9,7 +9,7 @@ use lib.Seq.{take-append-seam}
 use Rattle.mixer.specs.declared.Mixer.{Mixer}
 use lib.IntN.{ℤ}
 use Rattle.buffers.specs.Buffers.{Fills, FillsAll}
-use Rattle.buffers.specs.Shapes.{stepOf, rawOf, framesIn, cellsIn, FillsBy}
+use Rattle.buffers.specs.Shapes.{frameStep, rawOf, framesIn, cellsIn, FillsBy}
 use Rattle.buffers.specs.declared.Shape.{Shape}
 use Rattle.engine.specs.Engines.{boxed}
 use Rattle.engine.specs.Fills.{filledIn}
@@ -82,4 +82,4 @@ pub shaped-shown : {A : Type 0} (text : A → List ℕ) (w : ℕ) → ((x : A) �
     → Laid before 0 (numberedText 4 (r .filled) text (take n (part ++ rest))) after len
     → Shows (shapedFill text blank scale shape n m) before after (record { len = len; engine = r .engine })
 shaped-shown text w sized small scale shape n part rest g k f t =
-    shown text w sized small (stepOf shape) (λ m. map scale (rawOf shape m)) n (framesIn shape n) (cellsIn shape n) part rest g k (rw (lent-length n g) at f) t
+    shown text w sized small (frameStep shape) (λ m. map scale (rawOf shape m)) n (framesIn shape n) (cellsIn shape n) part rest g k (rw (lent-length n g) at f) t

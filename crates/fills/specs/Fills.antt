@@ -12,7 +12,7 @@ use Rattle.laws.specs.Runs.{after, given}
 use Rattle.output.specs.Levels.{raised}
 use Rattle.mixer.specs.declared.Mixer.{Mixer}
 use Rattle.frame.specs.Runs.{dutyStep, duties, monoStep, stereoStep}
-use Rattle.buffers.specs.Shapes.{stepOf, rawOf, framesIn, cellsIn, levelStep, levelOf}
+use Rattle.buffers.specs.Shapes.{frameStep, rawOf, framesIn, cellsIn, levelStep, levelOf}
 use Rattle.buffers.specs.declared.Level.{Level}
 use Rattle.buffers.specs.declared.Shape.{Shape}
 use Rattle.buffers.specs.Buffers.{toI8, toI16, toI32, toU12, toU16, once, doubled, sides}
@@ -57,7 +57,7 @@ module _ {A : Type 0} (text : A → List ℕ) (blank : A) (step : Mixer → Mixe
 
 -- by shape and by level
 abbrev pub shapedFill : {A : Type 0} → (A → List ℕ) → A → (ℤ → A) → Shape → ℕ → Mixer → Fill
-shapedFill text blank scale shape n m = filledBy text blank (stepOf shape) (λ m. map scale (rawOf shape m)) (framesIn shape n) (cellsIn shape n) n m
+shapedFill text blank scale shape n m = filledBy text blank (frameStep shape) (λ m. map scale (rawOf shape m)) (framesIn shape n) (cellsIn shape n) n m
 
 abbrev pub levelFill : Level → ℕ → Mixer → Fill
 levelFill level n m = singly wideText blankU16 (levelStep level) (levelOf level) n m

@@ -1,10 +1,10 @@
 // Phases, samples and gains; decibels in floats.rt.
 ghost use mathlib.Core.Path.{_≡_};
 ghost use Prim.Native.Nat.{_+_, _≤_, _<_};
-ghost use lib.IntN.{pos, negsuc};
+ghost use lib.IntN.{pos};
 ghost use mir.Syntax.{w8};
 ghost use mir.Val.{toZ, ofZ};
-ghost use Rattle.laws.specs.Whole.{heldTo};
+ghost use Rattle.laws.specs.Whole.{neg, heldTo};
 ghost use Rattle.fixed.specs.Fixed.{increment, indexOf, fractionOf, arch, sine, toward, gained, panGains, knee, limited};
 
 mod floats;
@@ -110,7 +110,7 @@ pub fn apply_gain_q8(sample: i8, gain_q8: u8) -> i8
 }
 
 pub fn clamp_sample(v: i32) -> i8
-    ensures { λ r. ⌜ r ≡ heldTo (negsuc 127) (pos 127) v ⌝ }
+    ensures { λ r. ⌜ r ≡ heldTo (neg 128) (pos 127) v ⌝ }
 {
     if v < -128 {
         -128

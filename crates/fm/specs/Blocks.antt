@@ -1,4 +1,4 @@
--- A block of requests, one after another. Assumes nothing.
+-- Inner: a block of requests, one after another. Assumes nothing.
 use Prim.Native.Nat.{ℕ}
 use mathlib.Core.List.{List, [], _∷_}
 use lib.IntN.{ℤ}

@@ -6,15 +6,13 @@ use mathlib.Core.List.{List}
 use lib.Dec.{ltb}
 use lib.ListN.{length, getD, take, drop, set, replicate}
 use Rattle.bank.specs.Banks.{ValidBank, bankOf}
-use Rattle.bank.specs.declared.BankRead.{BankRead}
-use Rattle.bank.specs.declared.BankRead.the-variants as K
 use Rattle.bank.specs.declared.SoundBank.{SoundBank}
 use Rattle.bank.specs.declared.BankSet.{BankSet}
 use Rattle.bank.specs.declared.BankSet.the-variants as B
 use Rattle.config.specs.Config as C
 use Rattle.config.specs.declared.AudioConfig.{AudioConfig}
-use Rattle.error.specs.declared.AudioError.{AudioError}
-use Rattle.error.specs.declared.AudioError.the-variants as E
+use Rattle.error.specs.Numbers.{numberOf}
+use Rattle.error.specs.Told.{Told, value, refused, passed, refusal}
 use Rattle.laws.specs.Lists.{All, mapFirst, only}
 use Rattle.output.specs.Duty.{freshMapper, ValidMapper}
 use Rattle.output.specs.declared.DutyMode.the-variants as D
@@ -71,6 +69,10 @@ withVoices m vs =
       «stealing_policy» = m .«stealing_policy»;
     }
 
+-- engine.rs: the policy that stands where none is chosen
+abbrev pub defaultPolicy : VoiceStealingPolicy
+defaultPolicy = P.LowestPriorityOldest
+
 -- n silent voices, no bank, no fade
 unfoldable pub fresh : ℕ → AudioConfig → VoiceStealingPolicy → Mixer
 fresh n config policy =
@@ -91,15 +93,15 @@ abbrev pub closed : Mixer
 closed =
     fresh 0 (record { «sample_rate_hz» = 0; «pwm_period» = 2; «duty_mode» = D.Linear; «master_gain_q8» = 0 }) P.LowestPriorityOldest
 
-abbrev pub notOpened : AudioError → Changed
-notOpened e = record { outcome = O.Refused e; mixer = closed }
+abbrev pub notOpened : ℕ → Changed
+notOpened n = record { outcome = O.Refused (refusal n); mixer = closed }
 
 -- "Opening an engine": 1, 2, 3 in this order
 unfoldable pub opened : ℕ → AudioConfig → VoiceStealingPolicy → Changed
 opened n config policy =
-    cond (ltb 16 n) (notOpened E.VoiceCount)
-    (cond (ltb 65537 (config .«sample_rate_hz»)) (notOpened E.BadRate)
-    (cond (ltb (config .«pwm_period») 2) (notOpened E.BadPeriod)
+    cond (ltb 16 n) (notOpened 1)
+    (cond (ltb 65537 (config .«sample_rate_hz»)) (notOpened 2)
+    (cond (ltb (config .«pwm_period») 2) (notOpened 3)
     (record { outcome = O.Done; mixer = fresh n config policy })))
 
 unfoldable pub withMasterGain : Mixer → ℕ → Mixer
@@ -160,8 +162,12 @@ stopped m =
     }
 
 -- "A refusal changes nothing"
-abbrev pub unchanged : Mixer → AudioError → Changed
-unchanged m e = record { outcome = O.Refused e; mixer = m }
+abbrev pub unchanged : Mixer → ℕ → Changed
+unchanged m n = record { outcome = O.Refused (refusal n); mixer = m }
+
+abbrev pub toldOutcome : Outcome → Told (Unit {0})
+toldOutcome O.Done = passed
+toldOutcome (O.Refused e) = refused (numberOf e)
 
 -- "Setting a bank makes its rate the engine's and all voices silent at that rate, and touches neither fade fields nor duty shapers."
 abbrev pub holdingBank : Mixer → SoundBank → Mixer
@@ -184,9 +190,9 @@ holdingBank m b =
       «stealing_policy» = m .«stealing_policy»;
     }
 
-abbrev pub bankedBy : Mixer → BankRead → Changed
-bankedBy m (K.Refused e) = unchanged m e
-bankedBy m (K.Bank b) = record { outcome = O.Done; mixer = holdingBank m b }
+abbrev pub bankedBy : Mixer → Told SoundBank → Changed
+bankedBy m (refused n) = unchanged m n
+bankedBy m (value b) = record { outcome = O.Done; mixer = holdingBank m b }
 
 unfoldable pub banked : Mixer → ℕ → ℕ → ℕ → Changed
 banked m rate count len = bankedBy m (bankOf rate count len)

@@ -2,7 +2,8 @@
 // such a state in a private field.
 ghost use mathlib.Core.Path.{_≡_};
 ghost use Rattle.laws.specs.Made.{Made};
-ghost use Rattle.mixer.specs.Mixers.{Valid, ValidChanged, fresh, notOpened, opened, withMasterGain, stopped, audibleCount, playing, voiceRead, panRead, panned, banked};
+ghost use Rattle.error.specs.Numbers.{numberOf};
+ghost use Rattle.mixer.specs.Mixers.{Valid, ValidChanged, defaultPolicy, fresh, notOpened, opened, withMasterGain, stopped, audibleCount, playing, voiceRead, panRead, panned, banked};
 use bank::BankRead;
 use bank::BankSet;
 use bank::SoundBank;
@@ -16,6 +17,15 @@ use voice::Voice;
 pub enum VoiceStealingPolicy {
     LowestPriorityOldest,
     FreeChannelOnly,
+}
+
+impl VoiceStealingPolicy {
+    // The source's `Default`.
+    pub fn default() -> VoiceStealingPolicy
+        ensures { λ r. ⌜ r ≡ defaultPolicy ⌝ }
+    {
+        VoiceStealingPolicy::LowestPriorityOldest
+    }
 }
 
 pub struct Mixer {
@@ -75,7 +85,7 @@ fn fresh(n: usize, config: AudioConfig, policy: VoiceStealingPolicy) -> Mixer
 
 // What stands where opening is refused.
 fn closed(error: AudioError) -> Changed
-    ensures { λ r. ⌜ Made ValidChanged (notOpened error) r ⌝ }
+    ensures { λ r. ⌜ Made ValidChanged (notOpened (numberOf error)) r ⌝ }
 {
     let none = AudioConfig {
         sample_rate_hz: 0,
@@ -208,7 +218,7 @@ impl Mixer {
             },
             BankRead::Bank(b) => {
                 let old = self.config;
-                let rate = b.sample_rate_hz;
+                let rate = b.sample_rate_hz();
                 let config = AudioConfig {
                     sample_rate_hz: rate,
                     ..old

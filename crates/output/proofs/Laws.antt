@@ -14,8 +14,8 @@ use mir.Facts.{sfits-widen}
 use Rattle.laws.specs.Whole.{heldTo}
 use Rattle.laws.proofs.Held.{Between, held-between}
 use Rattle.laws.proofs.Signed.{mag≤abs, mag-add, sub-size, pos-sub, abs≤, abs-fits, abs-quot, add≤, sub≤, mul≤}
-use Rattle.output.specs.Shapers.{level, shaped2ndOrder, ValidShaper, ValidShaped, fresh2ndOrder}
-use Rattle.output.specs.declared.PeriodRead.the-variants.{Accepted}
+use Rattle.output.specs.Shapers.{quantized, shaped2ndOrder, ValidShaper, ValidShaped, fresh2ndOrder}
+use Rattle.error.specs.Told.{value}
 use Rattle.output.specs.Duty.{duty, periodRead, mappedBy, mapped, ValidMapper, ValidMapped}
 use Rattle.output.specs.Levels.{raised}
 use Rattle.output.specs.declared.DutyMode.{DutyMode}
@@ -66,24 +66,24 @@ raised-fits (negsuc k) f =
     }
 
 -- a level, and two of them
-pub level-size : (e : ℤ) → mag (level e) ≤ 32767
-unfolding level
+pub level-size : (e : ℤ) → mag (quantized e) ≤ 32767
+unfolding quantized
 level-size e = by-test (leZ (pos 0) e)
   where
     by-test : (t : Bool) → mag (cond t (pos 32767) (negsuc 32767)) ≤ 32767
     by-test true = omega arith
     by-test false = omega arith
 
-pub levels-size : (a b : ℤ) → mag (level a +ℤ level b) ≤ 65535
-levels-size a b = mag-add (level a) (level b) 32768 32767 (natAbs-le (level a) (omega (arith, level-size a))) (level-size b)
+pub levels-size : (a b : ℤ) → mag (quantized a +ℤ quantized b) ≤ 65535
+levels-size a b = mag-add (quantized a) (quantized b) 32768 32767 (natAbs-le (quantized a) (omega (arith, level-size a))) (level-size b)
 
 -- what an error within −32,767..32,767 gains and loses leaves it there
-pub level-rest : (e : ℤ) → mag e ≤ 65534 → natAbs (e -ℤ level e) ≤ 32767
-unfolding level
+pub level-rest : (e : ℤ) → mag e ≤ 65534 → natAbs (e -ℤ quantized e) ≤ 32767
+unfolding quantized
 level-rest (pos n) h = rw (leb·zero n) (sub-size n 32767 32767 (omega arith) (omega arith))
 level-rest (negsuc k) h = sub-size 32768 (suc k) 32767 (omega arith) (omega arith)
 
-stage-error : (e x : ℤ) → natAbs e ≤ 32767 → mag x ≤ 32767 → natAbs (e +ℤ x -ℤ level (e +ℤ x)) ≤ 32767
+stage-error : (e x : ℤ) → natAbs e ≤ 32767 → mag x ≤ 32767 → natAbs (e +ℤ x -ℤ quantized (e +ℤ x)) ≤ 32767
 stage-error e x h k = level-rest (e +ℤ x) (mag-add e x 32767 32767 h k)
 
 pub valid-fresh : ValidShaper fresh2ndOrder
@@ -96,7 +96,7 @@ valid-shaped d s h f =
     let p : Scaled w32 s 256 = scaled-fits 256 f tt tt tt in
     let sum = d .e1 +ℤ s *ℤ pos 256 in
     let a = stage-error (d .e1) (s *ℤ pos 256) (h .first) (omega (arith, p .size)) in
-    record { first = a; second = stage-error (d .e2) (sum -ℤ level sum) (h .second) (le-trans (mag≤abs (sum -ℤ level sum)) a) }
+    record { first = a; second = stage-error (d .e2) (sum -ℤ quantized sum) (h .second) (le-trans (mag≤abs (sum -ℤ quantized sum)) a) }
 
 -- each value on the way to a duty fits, and the last lies within 1..period − 1
 abbrev offset : ℤ → ℕ → ℤ
@@ -130,7 +130,7 @@ pub duty-between : (s : ℤ) (p : ℕ) → 2 ≤ p → Between 1 (p - 1) (heldTo
 duty-between s p h = held-between 1 (p - 1) _ (omega arith)
 
 -- a period of at least 2 is accepted
-pub period-accepted : (n : ℕ) → 2 ≤ n → periodRead n ≡ Accepted (record { counts = n })
+pub period-accepted : (n : ℕ) → 2 ≤ n → periodRead n ≡ value (record { counts = n })
 period-accepted n h = rw (le-ltb n 2 h)
 
 pub duty-least : (s : ℤ) (p : ℕ) → 2 ≤ p → 1 ≤ duty s p

@@ -3,28 +3,32 @@ use Prim.Native.Nat.{ℕ, _-_, _/_, _≤_}
 use mathlib.Core.Bool.{cond}
 use lib.Dec.{ltb}
 use lib.IntN.{ℤ, pos, natAbs, _+ℤ_, _-ℤ_, _*ℤ_}
-use Rattle.error.specs.declared.AudioError.the-variants as E
+use Rattle.error.specs.Numbers.{numberOf}
+use Rattle.error.specs.Told.{Told, value, refused}
 use Rattle.laws.specs.Whole.{truncDiv, heldTo}
 use Rattle.output.specs.Shapers.{fresh, shaped, fresh2ndOrder, shaped2ndOrder, ValidShaper}
 use Rattle.output.specs.declared.DutyMode.{DutyMode}
 use Rattle.output.specs.declared.DutyMode.the-variants as M
 use Rattle.output.specs.declared.Period.{Period}
 use Rattle.output.specs.declared.PeriodRead.{PeriodRead}
-use Rattle.output.specs.declared.PeriodRead.the-variants.{Accepted, Refused}
+use Rattle.output.specs.declared.PeriodRead.the-variants as R
 use Rattle.output.specs.declared.PwmMapper.{PwmMapper}
 use Rattle.output.specs.declared.Mapped.{Mapped}
 
+-- output.rs: the mode that stands where none is chosen
+abbrev pub defaultMode : DutyMode
+defaultMode = M.Linear
+
 -- "PWM period below 2 | 3 BadPeriod"
-abbrev pub periodRead : ℕ → PeriodRead
-periodRead n = cond (ltb n 2) (Refused E.BadPeriod) (Accepted (record { counts = n }))
+abbrev pub periodRead : ℕ → Told Period
+periodRead n = cond (ltb n 2) (refused 3) (value (record { counts = n }))
+
+abbrev pub toldPeriod : PeriodRead → Told Period
+toldPeriod (R.Accepted p) = value p
+toldPeriod (R.Refused e) = refused (numberOf e)
 
 pub record ValidPeriod (p : Period) : Type 0 where
   pub least : 2 ≤ p .counts
-
--- an accepted period is valid; a refusal has none
-abbrev pub ValidRead : PeriodRead → Type 0
-ValidRead (Accepted p) = ValidPeriod p
-ValidRead (Refused e) = Unit {0}
 
 -- "Duty: m = floor(period ÷ 2), m + truncated(s × (m − 1) ÷ 127), held to 1..period − 1." What is held so is no less than 1, and so
 -- its own size.

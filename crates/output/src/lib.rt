@@ -5,9 +5,10 @@ ghost use lib.IntN.{pos, natAbs, _+ℤ_, _-ℤ_, _*ℤ_};
 ghost use lib.Signed.{mag};
 ghost use Rattle.laws.specs.Whole.{heldTo, wrap32};
 ghost use Rattle.laws.specs.Made.{Made};
-ghost use Rattle.output.specs.Shapers.{fresh, shaped, level, pulse, fresh2ndOrder, shaped2ndOrder, ValidShaper, ValidShaped};
-ghost use Rattle.output.specs.Duty.{duty, periodRead, ValidPeriod, ValidRead, freshMapper, mapped, ValidMapper, ValidMapped};
-ghost use Rattle.output.specs.Levels.{limitedBus, raised};
+ghost use Rattle.error.specs.Told.{Answered};
+ghost use Rattle.output.specs.Shapers.{fresh, shaped, quantized, pulse, fresh2ndOrder, shaped2ndOrder, ValidShaper, ValidShaped};
+ghost use Rattle.output.specs.Duty.{defaultMode, duty, periodRead, toldPeriod, ValidPeriod, freshMapper, mapped, ValidMapper, ValidMapped};
+ghost use Rattle.output.specs.Levels.{limitedBus, toldLimit, raised};
 use error::AudioError;
 
 // How a sample becomes a compare value.
@@ -15,6 +16,15 @@ pub enum DutyMode {
     Linear,
     SigmaDelta,
     SigmaDelta2ndOrder,
+}
+
+impl DutyMode {
+    // The source's `Default`.
+    pub fn default() -> DutyMode
+        ensures { λ r. ⌜ r ≡ defaultMode ⌝ }
+    {
+        DutyMode::Linear
+    }
 }
 
 // x + y, wrapping in 32 bits: a sum of two i32 is at most one lap off.
@@ -95,7 +105,7 @@ struct Staged {
 // The error e gains x and loses its level.
 fn stage(e: i32, x: i32) -> Staged
     requires { ⌜ (natAbs e ≤ 32767) × (mag x ≤ 32767) ⌝ }
-    ensures { λ r. ⌜ (r .y ≡ level (e +ℤ x)) × (r .e ≡ e +ℤ x -ℤ level (e +ℤ x)) ⌝ }
+    ensures { λ r. ⌜ (r .y ≡ quantized (e +ℤ x)) × (r .e ≡ e +ℤ x -ℤ quantized (e +ℤ x)) ⌝ }
 {
     let sum = e + x;
     if sum >= 0 {
@@ -174,7 +184,7 @@ pub enum PeriodRead {
 
 impl Period {
     pub fn new(counts: u16) -> PeriodRead
-        ensures { λ r. ⌜ Made ValidRead (periodRead counts) r ⌝ }
+        ensures { λ r. ⌜ Answered toldPeriod ValidPeriod (periodRead counts) r ⌝ }
     {
         if counts < 2 {
             return PeriodRead::Refused(AudioError::BadPeriod);
@@ -290,7 +300,7 @@ pub enum Limited {
 
 // Soft limiter before the mix bus, over the sums that sixteen samples can have.
 pub fn limit_bus(sum: i32) -> Limited
-    ensures { λ r. ⌜ r ≡ limitedBus sum ⌝ }
+    ensures { λ r. ⌜ toldLimit r ≡ limitedBus sum ⌝ }
 {
     if sum < -2048 {
         return Limited::Refused(AudioError::BadSum);

@@ -8,8 +8,6 @@ use lib.Dec.{eqb}
 use lib.ListN.{length, getD, set, length-set}
 use lib.Seq.{drop-set-lt}
 use Rattle.laws.proofs.Lists.{getD-any, all-set}
-use Rattle.error.specs.declared.AudioError.{AudioError}
-use Rattle.start.specs.declared.EntryStart.the-variants as T
 use Rattle.voice.specs.Voices as S
 use Rattle.voice.specs.declared.Voice.{Voice}
 use Rattle.voice.proofs.Laws as L
@@ -67,10 +65,3 @@ valid-begun {m} v step h k l g =
       mapper = h .mapper;
       fade = λ e. (k, l);
     }
-
--- ---- a start that is known to give a voice
-pub voice-is : (v w : Voice) → T.Voice v ≡ T.Voice w → v ≡ w
-voice-is v w e = cc
-
-pub not-refused : {X : Type 0} (v : Voice) (e : AudioError) → T.Voice v ≡ T.Refused e → X
-not-refused v e h = let z : _≡_ {A = ℕ} 0 1 = cc in absurd (omega arith)

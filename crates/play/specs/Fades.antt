@@ -5,14 +5,11 @@ use mathlib.Core.List.{List}
 use lib.Dec.{ltb}
 use lib.ListN.{getD, set}
 use Rattle.bank.specs.Search.{foundGiven}
-use Rattle.bank.specs.declared.EntryRead.{EntryRead}
-use Rattle.bank.specs.declared.EntryRead.the-variants as F
+use Rattle.bank.specs.declared.EffectEntry.{EffectEntry}
 use Rattle.config.specs.Config.{fadeStep}
 use Rattle.envelope.specs.declared.AdsrSpec.{AdsrSpec}
-use Rattle.error.specs.declared.AudioError.the-variants as E
+use Rattle.error.specs.Told.{Told, value, refused}
 use Rattle.start.specs.Starts.{entryStart}
-use Rattle.start.specs.declared.EntryStart.{EntryStart}
-use Rattle.start.specs.declared.EntryStart.the-variants as S
 use Rattle.voice.specs.Voices.{silentVoice, releasedVoice}
 use Rattle.voice.specs.declared.Voice.{Voice}
 use Rattle.mixer.specs.Mixers.{withVoices, unchanged}
@@ -40,15 +37,15 @@ begun m v step =
     }
 
 -- the step is from the engine's rate
-unfoldable pub fadedBy : Mixer → ℕ → EntryStart → Changed
-fadedBy m ms (S.Refused e) = unchanged m e
-fadedBy m ms (S.Voice v) = record { outcome = O.Done; mixer = begun m v (fadeStep ms (m .config .«sample_rate_hz»)) }
+unfoldable pub fadedBy : Mixer → ℕ → Told Voice → Changed
+fadedBy m ms (refused n) = unchanged m n
+fadedBy m ms (value v) = record { outcome = O.Done; mixer = begun m v (fadeStep ms (m .config .«sample_rate_hz»)) }
 
 -- "it releases voice 0 before its entry start, and 4 or 10 given there leaves that release standing"
-abbrev pub fadedTo : Mixer → List ℕ → ℕ → AdsrSpec → EntryRead → Changed
-fadedTo m bytes ms adsr (F.Refused e) = unchanged m e
-fadedTo m bytes ms adsr (F.Entry entry) = fadedBy (firstReleased m) ms (entryStart (m .bank) bytes entry adsr 128)
+abbrev pub fadedTo : Mixer → List ℕ → ℕ → AdsrSpec → Told EffectEntry → Changed
+fadedTo m bytes ms adsr (refused n) = unchanged m n
+fadedTo m bytes ms adsr (value entry) = fadedBy (firstReleased m) ms (entryStart (m .bank) bytes entry adsr 128)
 
 -- "Fade | N below 2 | 5 `VoiceBusy`", then bank, entry search and entry start
 unfoldable pub faded : Mixer → List ℕ → ℕ → ℕ → AdsrSpec → Changed
-faded m bytes id ms adsr = cond (ltb (m .n) 2) (unchanged m E.VoiceBusy) (fadedTo m bytes ms adsr (foundGiven (m .bank) bytes id))
+faded m bytes id ms adsr = cond (ltb (m .n) 2) (unchanged m 5) (fadedTo m bytes ms adsr (foundGiven (m .bank) bytes id))

@@ -2,7 +2,8 @@
 ghost use mathlib.Core.Path.{_≡_};
 ghost use Prim.Native.Nat.{_≤_};
 ghost use Rattle.laws.specs.Made.{Made};
-ghost use Rattle.start.specs.Starts.{ValidStart};
+ghost use Rattle.error.specs.Told.{ValidTold};
+ghost use Rattle.start.specs.Starts.{toldStart};
 ghost use Rattle.voice.specs.Voices as S;
 ghost use Rattle.mixer.specs.Mixers.{Valid, ValidChanged};
 ghost use Rattle.play.specs.Fades.{firstReleased, begun, fadedBy, faded};
@@ -45,8 +46,8 @@ fn begun(m: Mixer, v: Voice, step: u8) -> Mixer
 // With voice 0 released: the voice that started, or why none did.
 fn faded_by(m: Mixer, duration_ms: u16, started: EntryStart) -> Changed
     requires { ⌜ Valid m ⌝ }
-    requires { ⌜ (2 ≤ m .n) × ValidStart started ⌝ }
-    ensures { λ r. ⌜ Made ValidChanged (fadedBy m «duration_ms» started) r ⌝ }
+    requires { ⌜ (2 ≤ m .n) × ValidTold S.Valid (toldStart started) ⌝ }
+    ensures { λ r. ⌜ Made ValidChanged (fadedBy m «duration_ms» (toldStart started)) r ⌝ }
 {
     let config = m.config;
     let step = config::crossfade_step_q8(duration_ms, config.sample_rate_hz);

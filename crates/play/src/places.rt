@@ -1,11 +1,10 @@
 // A play request's place and voice, for a caller that keeps the voices and their ranks: no state is copied.
-ghost use Prim.Native.Nat.{_≤_};
-ghost use lib.ListN.{length, take};
-ghost use Rattle.laws.specs.Made.{Made};
+ghost use lib.ListN.{take};
+ghost use Rattle.error.specs.Told.{Answered};
 ghost use Rattle.allocate.specs.Ranked.{boundOf, lowestRank};
 ghost use Rattle.bank.specs.Banks.{ValidBank};
 ghost use Rattle.start.specs.Starts.{requestStart};
-ghost use Rattle.play.specs.Plays.{ValidPlaced, placedBy};
+ghost use Rattle.play.specs.Plays.{ValidPlaced, placedBy, toldPlaced};
 use allocate::Allocated;
 use bank::BankSet;
 use error::AudioError;
@@ -28,10 +27,8 @@ pub fn place(
     bytes: &[u8],
     request: Request,
 ) -> Placed
-    requires { ⌜ n ≤ 16 ⌝ }
-    requires { ⌜ n ≤ length (now ranks) ⌝ }
     requires { ⌜ ValidBank bank ⌝ }
-    ensures { λ r. ⌜ Made ValidPlaced (placedBy (lowestRank (take n (now (ranks .entry))) (boundOf policy (request .priority))) (requestStart bank (now (bytes .entry)) request)) r ⌝ }
+    ensures { λ r. ⌜ Answered toldPlaced ValidPlaced (placedBy (lowestRank (take n (now (ranks .entry))) (boundOf policy (request .priority))) (requestStart bank (now (bytes .entry)) request)) r ⌝ }
 {
     let bound = allocate::ranks::bound(policy, request.priority);
     match allocate::ranks::lowest(ranks, n, bound) {

@@ -39,6 +39,13 @@ oscillator phase step waveform hz rate =
 unfoldable pub newOscillator : ℕ → ℕ → PolyBlepWaveform → PolyBlepOscillator
 newOscillator hz rate waveform = oscillator (lit 0 1) (stepOf hz rate) waveform hz (max rate 1)
 
+-- polyblep.rs: what stands where none is chosen
+abbrev pub defaultWaveform : PolyBlepWaveform
+defaultWaveform = W.Sine
+
+abbrev pub defaultOscillator : PolyBlepOscillator
+defaultOscillator = newOscillator 440 48000 defaultWaveform
+
 unfoldable pub atFrequency : PolyBlepOscillator → ℕ → PolyBlepOscillator
 atFrequency o hz = oscillator (o .phase) (stepOf hz (o .«sample_rate_hz»)) (o .waveform) hz (o .«sample_rate_hz»)
 

@@ -4,7 +4,7 @@
 ghost use mathlib.Core.Path.{_≡_};
 ghost use Prim.Native.Nat.{max};
 ghost use Rattle.laws.specs.Made.{Made};
-ghost use Rattle.polyblep.specs.Oscillators.{Valid, Stepped, ValidVoice, FloatStepped, VoiceStepped, stepOf, newOscillator, atFrequency, atRate, withWaveform, atStart, advance, silentVoice, startedVoice, stoppedVoice, carrierOf};
+ghost use Rattle.polyblep.specs.Oscillators.{Valid, Stepped, ValidVoice, FloatStepped, VoiceStepped, stepOf, defaultWaveform, defaultOscillator, newOscillator, atFrequency, atRate, withWaveform, atStart, advance, silentVoice, startedVoice, stoppedVoice, carrierOf};
 use fixed::Given;
 
 mod blocks;
@@ -24,6 +24,15 @@ pub enum PolyBlepWaveform {
     Sawtooth,
     Square,
     Triangle,
+}
+
+impl PolyBlepWaveform {
+    // The source's `Default`.
+    pub fn default() -> PolyBlepWaveform
+        ensures { λ r. ⌜ r ≡ defaultWaveform ⌝ }
+    {
+        PolyBlepWaveform::Sine
+    }
 }
 
 // Private fields: an oscillator comes from the calls below, which keep its phase and step in their ranges.
@@ -72,6 +81,13 @@ impl PolyBlepOscillator {
             freq_hz,
             sample_rate_hz: at_least_one(sample_rate_hz),
         }
+    }
+
+    // The source's `Default`.
+    pub fn default() -> PolyBlepOscillator
+        ensures { λ r. ⌜ Made Valid defaultOscillator r ⌝ }
+    {
+        PolyBlepOscillator::new(440, 48_000, PolyBlepWaveform::Sine)
     }
 
     pub fn set_frequency(self, freq_hz: u32) -> PolyBlepOscillator

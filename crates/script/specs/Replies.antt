@@ -4,11 +4,11 @@ use mathlib.Core.Bool.{cond, _&&_}
 use mathlib.Core.List.{List}
 use lib.Dec.{leb, ltb, eqb}
 use lib.ListN.{length}
-use lib.IntN.{ℤ, pos, negsuc, _*ℤ_}
+use lib.IntN.{ℤ, pos, _*ℤ_}
 use lib.Ieee.{binary32, ofBits, toBits}
 use mir.Syntax.{w8, w16, w32}
 use mir.Val.{toZ, ofZ}
-use Rattle.laws.specs.Whole.{heldTo}
+use Rattle.laws.specs.Whole.{neg, heldTo}
 use Rattle.error.specs.Numbers.{numberOf}
 use Rattle.error.specs.declared.AudioError.{AudioError}
 use Rattle.error.specs.declared.AudioError.the-variants as E
@@ -102,7 +102,7 @@ crossfadeReply l = Word (ofZ w8 (toward (sampleAt l 1) (sampleAt l 2) (byteAt l 
 
 -- 54, clamp: "sum i32 (4) | 2 digits"
 unfoldable pub clampReply : List ℕ → Reply
-clampReply l = Word (ofZ w8 (heldTo (negsuc 127) (pos 127) (sumAt l 1))) 2
+clampReply l = Word (ofZ w8 (heldTo (neg 128) (pos 127) (sumAt l 1))) 2
 
 -- 55, kind byte: "kind (1) | number (9 above 5), then the kind's byte (00 where refused)"
 abbrev pub kindAnswer : KindRead → Reply

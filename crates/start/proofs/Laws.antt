@@ -9,24 +9,16 @@ use Rattle.bank.specs.declared.BankSet.{BankSet}
 use Rattle.bank.specs.declared.BankSet.the-variants as B
 use Rattle.bank.specs.declared.SoundBank.{SoundBank}
 use Rattle.bank.specs.declared.EffectEntry.{EffectEntry}
-use Rattle.bank.specs.declared.PayloadRead.{PayloadRead}
-use Rattle.bank.specs.declared.PayloadRead.the-variants as P
-use Rattle.bank.specs.declared.EntryRead.{EntryRead}
-use Rattle.bank.specs.declared.EntryRead.the-variants as F
 use Rattle.bank.specs.Search.{foundGiven}
-use Rattle.error.specs.declared.AudioError.{AudioError}
+use Rattle.error.specs.Told.{Told, value, refused, andThen, passed, ValidTold}
 use Rattle.envelope.specs.declared.AdsrSpec.{AdsrSpec}
 use Rattle.voice.specs.Sources.{ValidSource, startedEntry}
 use Rattle.voice.specs.Voices.{Valid, silentVoice, audible}
 use Rattle.voice.specs.declared.Voice.{Voice}
-use Rattle.voice.specs.declared.source.Started.{Started}
-use Rattle.voice.specs.declared.source.Started.the-variants as R
 use Rattle.voice.specs.declared.source.VoiceSource.{VoiceSource}
 use Rattle.voice.proofs.Laws as L
-use Rattle.start.specs.declared.EntryStart.the-variants as S
 use Rattle.start.specs.declared.Request.{Request}
-use Rattle.start.specs.declared.EntryStart.{EntryStart}
-use Rattle.start.specs.Starts.{atRate, startedVoice, voiceOf, startAt, startIn, entryStart, foundStart, requestStart}
+use Rattle.start.specs.Starts.{atRate, startedVoice, startAt, entryStart, requestStart}
 
 -- the voice before its envelope is triggered
 pub valid-untriggered : (rate gain priority : ℕ) (source : VoiceSource) (v : Voice) → v ≡ silentVoice rate → rate ≤ 65537 → ValidSource source
@@ -45,47 +37,44 @@ valid-untriggered rate gain priority source v e h k =
 
 -- a start from a bank, by its payload
 module _ (bank : BankSet) (b : SoundBank) (bytes : List ℕ) (entry : EffectEntry) (adsr : AdsrSpec) (priority : ℕ) (h : bank ≡ B.Bank b) where
-  pub start-refused : (e : AudioError) → payloadGiven (B.Bank b) bytes (entry .offset) (entry .len) ≡ P.Refused e → entryStart bank bytes entry adsr priority ≡ S.Refused e
+  pub start-refused : (n : ℕ) → payloadGiven (B.Bank b) bytes (entry .offset) (entry .len) ≡ refused n → entryStart bank bytes entry adsr priority ≡ refused n
   unfolding entryStart
-  start-refused e k = rw (h, k)
+  start-refused n k = rw (h, k)
 
-  pub start-whole : payloadGiven (B.Bank b) bytes (entry .offset) (entry .len) ≡ P.Whole → entryStart bank bytes entry adsr priority ≡ startAt (b .«sample_rate_hz») entry adsr priority
+  pub start-whole : payloadGiven (B.Bank b) bytes (entry .offset) (entry .len) ≡ passed → entryStart bank bytes entry adsr priority ≡ startAt (b .«sample_rate_hz») entry adsr priority
   unfolding entryStart
   start-whole k = rw (h, k)
 
 -- the voice, at a rate that an engine can have
-pub at-rate : (rate : ℕ) (v : Voice) → rate ≤ 65537 → atRate rate v ≡ S.Voice v
+pub at-rate : (rate : ℕ) (v : Voice) → rate ≤ 65537 → atRate rate v ≡ value v
 unfolding atRate
 at-rate rate v h = rw (le-ltb 65537 rate h)
 
 -- ---- what is heard: a voice that is given is audible and of the priority asked
-abbrev pub Heard : ℕ → EntryStart → Type 0
-Heard priority (S.Voice v) = (audible v ≡ true) × (v .priority ≡ priority)
-Heard priority (S.Refused e) = Unit {0}
+abbrev pub Heard : ℕ → Told Voice → Type 0
+Heard priority t = ValidTold (λ v. (audible v ≡ true) × (v .priority ≡ priority)) t
 
-voice-heard : (rate gain priority : ℕ) (source : VoiceSource) (adsr : AdsrSpec) → Heard priority (S.Voice (startedVoice rate gain priority source adsr))
+then-heard : {A : Type 0} (priority : ℕ) (t : Told A) (next : A → Told Voice) → ((x : A) → Heard priority (next x)) → Heard priority (andThen t next)
+then-heard priority (value x) next h = h x
+then-heard priority (refused n) next h = tt
+
+voice-heard : (rate gain priority : ℕ) (source : VoiceSource) (adsr : AdsrSpec) → Heard priority (value (startedVoice rate gain priority source adsr))
 unfolding startedVoice
 voice-heard rate gain priority source adsr = (L.triggered-audible _ adsr, L.triggered-priority _ adsr)
 
-at-heard : (s : Started) (rate : ℕ) (entry : EffectEntry) (adsr : AdsrSpec) (priority : ℕ) → Heard priority (voiceOf s rate entry adsr priority)
-at-heard (R.Refused e) rate entry adsr priority = tt
-at-heard (R.Source source) rate entry adsr priority = voice-heard rate (entry .«default_gain_q8») priority source adsr
-
-in-heard : (p : PayloadRead) (rate : ℕ) (entry : EffectEntry) (adsr : AdsrSpec) (priority : ℕ) → Heard priority (startIn p rate entry adsr priority)
+at-heard : (rate : ℕ) (entry : EffectEntry) (adsr : AdsrSpec) (priority : ℕ) → Heard priority (startAt rate entry adsr priority)
 unfolding startAt
-in-heard (P.Refused e) rate entry adsr priority = tt
-in-heard P.Whole rate entry adsr priority = at-heard (startedEntry (entry .kind) (entry .param0) (entry .param1) rate) rate entry adsr priority
+at-heard rate entry adsr priority =
+    then-heard priority (startedEntry (entry .kind) (entry .param0) (entry .param1) rate) _
+    (λ source. voice-heard rate (entry .«default_gain_q8») priority source adsr)
 
 pub entry-heard : (bank : BankSet) (bytes : List ℕ) (entry : EffectEntry) (adsr : AdsrSpec) (priority : ℕ) → Heard priority (entryStart bank bytes entry adsr priority)
 unfolding entryStart
 entry-heard B.None bytes entry adsr priority = tt
 entry-heard (B.Bank b) bytes entry adsr priority =
-    in-heard (payloadGiven (B.Bank b) bytes (entry .offset) (entry .len)) (b .«sample_rate_hz») entry adsr priority
+    then-heard priority (payloadGiven (B.Bank b) bytes (entry .offset) (entry .len)) _ (λ _. at-heard (b .«sample_rate_hz») entry adsr priority)
 
 pub request-heard : (bank : BankSet) (bytes : List ℕ) (r : Request) → Heard (r .priority) (requestStart bank bytes r)
 unfolding requestStart
-request-heard bank bytes r = by-search (foundGiven bank bytes (r .id))
-  where
-    by-search : (f : EntryRead) → Heard (r .priority) (foundStart f bank bytes (r .adsr) (r .priority))
-    by-search (F.Refused e) = tt
-    by-search (F.Entry entry) = entry-heard bank bytes entry (r .adsr) (r .priority)
+request-heard bank bytes r =
+    then-heard (r .priority) (foundGiven bank bytes (r .id)) _ (λ entry. entry-heard bank bytes entry (r .adsr) (r .priority))

@@ -1,5 +1,5 @@
 -- Document 01, "Voices and the rule for handing them out": what a start puts in. Assumes nothing.
-use Prim.Native.Nat.{ℕ, _≤_}
+use Prim.Native.Nat.{ℕ}
 use mathlib.Core.Bool.{Bool, true, false, cond}
 use lib.Dec.{ltb}
 use mathlib.Core.List.{List}
@@ -8,28 +8,19 @@ use Rattle.bank.specs.Search.{foundGiven}
 use Rattle.bank.specs.declared.BankSet.{BankSet}
 use Rattle.bank.specs.declared.BankSet.the-variants as B
 use Rattle.bank.specs.declared.EffectEntry.{EffectEntry}
-use Rattle.bank.specs.declared.EntryRead.{EntryRead}
-use Rattle.bank.specs.declared.EntryRead.the-variants as F
-use Rattle.bank.specs.declared.PayloadRead.{PayloadRead}
-use Rattle.bank.specs.declared.PayloadRead.the-variants as P
 use Rattle.envelope.specs.Adsrs.{clickSpec}
 use Rattle.envelope.specs.declared.AdsrSpec.{AdsrSpec}
-use Rattle.error.specs.declared.AudioError.the-variants as E
+use Rattle.error.specs.Numbers.{numberOf}
+use Rattle.error.specs.Told.{Told, value, refused, andThen}
 use Rattle.polyblep.specs.declared.PolyBlepWaveform.{PolyBlepWaveform}
 use Rattle.tone.specs.declared.Waveform.{Waveform}
 use Rattle.voice.specs.Sources.{startedEntry, toneSource, polyBlepSource}
-use Rattle.voice.specs.Voices.{Valid, silentVoice, triggeredVoice}
+use Rattle.voice.specs.Voices.{silentVoice, triggeredVoice}
 use Rattle.voice.specs.declared.Voice.{Voice}
-use Rattle.voice.specs.declared.source.Started.{Started}
-use Rattle.voice.specs.declared.source.Started.the-variants as R
 use Rattle.voice.specs.declared.source.VoiceSource.{VoiceSource}
 use Rattle.start.specs.declared.Request.{Request}
 use Rattle.start.specs.declared.EntryStart.{EntryStart}
 use Rattle.start.specs.declared.EntryStart.the-variants as S
-
-abbrev pub ValidStart : EntryStart → Type 0
-ValidStart (S.Voice v) = Valid v
-ValidStart (S.Refused e) = Unit {0}
 
 -- a silent voice at this rate with this gain, priority and source, and its envelope, triggered
 unfoldable pub startedVoice : ℕ → ℕ → ℕ → VoiceSource → AdsrSpec → Voice
@@ -46,48 +37,41 @@ startedVoice rate gain priority source adsr =
     })
     adsr
 
--- "kind 1, 3, 4 or 5 | 10 NotCarried"
-abbrev pub voiceOf : Started → ℕ → EffectEntry → AdsrSpec → ℕ → EntryStart
-voiceOf (R.Refused e) rate entry adsr priority = S.Refused e
-voiceOf (R.Source source) rate entry adsr priority = S.Voice (startedVoice rate (entry .«default_gain_q8») priority source adsr)
-
-unfoldable pub startAt : ℕ → EffectEntry → AdsrSpec → ℕ → EntryStart
+-- "kind 1, 3, 4 or 5 | 10"
+unfoldable pub startAt : ℕ → EffectEntry → AdsrSpec → ℕ → Told Voice
 startAt rate entry adsr priority =
-    voiceOf (startedEntry (entry .kind) (entry .param0) (entry .param1) rate) rate entry adsr priority
-
--- "offset + length exceeds the bank | 4", which comes first
-abbrev pub startIn : PayloadRead → ℕ → EffectEntry → AdsrSpec → ℕ → EntryStart
-startIn (P.Refused e) rate entry adsr priority = S.Refused e
-startIn P.Whole rate entry adsr priority = startAt rate entry adsr priority
+    andThen (startedEntry (entry .kind) (entry .param0) (entry .param1) rate)
+    (λ source. value (startedVoice rate (entry .«default_gain_q8») priority source adsr))
 
 -- "An entry start puts in a silent voice at the bank's rate with the entry's gain, the request's priority and its envelope,
--- triggered."
-unfoldable pub entryStart : BankSet → List ℕ → EffectEntry → AdsrSpec → ℕ → EntryStart
-entryStart B.None bytes entry adsr priority = S.Refused E.NoBank
+-- triggered." "offset + length exceeds the bank | 4" comes before 10.
+unfoldable pub entryStart : BankSet → List ℕ → EffectEntry → AdsrSpec → ℕ → Told Voice
+entryStart B.None bytes entry adsr priority = refused 6
 entryStart (B.Bank b) bytes entry adsr priority =
-    startIn (payloadGiven (B.Bank b) bytes (entry .offset) (entry .len)) (b .«sample_rate_hz») entry adsr priority
-
-abbrev pub foundStart : EntryRead → BankSet → List ℕ → AdsrSpec → ℕ → EntryStart
-foundStart (F.Refused e) bank bytes adsr priority = S.Refused e
-foundStart (F.Entry entry) bank bytes adsr priority = entryStart bank bytes entry adsr priority
+    andThen (payloadGiven (B.Bank b) bytes (entry .offset) (entry .len)) (λ _. startAt (b .«sample_rate_hz») entry adsr priority)
 
 -- a play request's start: bank, entry search, entry start, in the table's order
-unfoldable pub requestStart : BankSet → List ℕ → Request → EntryStart
-requestStart bank bytes r = foundStart (foundGiven bank bytes (r .id)) bank bytes (r .adsr) (r .priority)
+unfoldable pub requestStart : BankSet → List ℕ → Request → Told Voice
+requestStart bank bytes r =
+    andThen (foundGiven bank bytes (r .id)) (λ entry. entryStart bank bytes entry (r .adsr) (r .priority))
+
+abbrev pub toldStart : EntryStart → Told Voice
+toldStart (S.Voice v) = value v
+toldStart (S.Refused e) = refused (numberOf e)
 
 -- a voice is given
-abbrev pub starts : EntryStart → Bool
-starts (S.Voice v) = true
-starts (S.Refused e) = false
+abbrev pub starts : Told Voice → Bool
+starts (value v) = true
+starts (refused n) = false
 
 -- "A request is sound where no condition that turns down a play request, number 5 left out, holds for it with the engine's bank and the
 -- lent bytes; with no bank set none is sound."
 unfoldable pub soundRequest : BankSet → List ℕ → Request → Bool
 soundRequest bank bytes r = starts (requestStart bank bytes r)
 
--- a voice at a rate that an engine can have: "sample rate above 65,537 | 2 BadRate"
-unfoldable pub atRate : ℕ → Voice → EntryStart
-atRate rate v = cond (ltb 65537 rate) (S.Refused E.BadRate) (S.Voice v)
+-- a voice at a rate that an engine can have: "sample rate above 65,537 | 2"
+unfoldable pub atRate : ℕ → Voice → Told Voice
+atRate rate v = cond (ltb 65537 rate) (refused 2) (value v)
 
 -- "voice 0 becomes a silent voice at the engine's rate with that source and a click envelope, triggered": gain 255 and priority 0 are the
 -- silent voice's

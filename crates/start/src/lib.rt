@@ -2,10 +2,11 @@
 ghost use mathlib.Core.Path.{_≡_};
 ghost use Prim.Native.Nat.{_≤_};
 ghost use Rattle.laws.specs.Made.{Made};
+ghost use Rattle.error.specs.Told.{Answered};
 ghost use Rattle.bank.specs.Banks.{ValidBank};
 ghost use Rattle.voice.specs.Sources.{ValidSource};
 ghost use Rattle.voice.specs.Voices.{Valid};
-ghost use Rattle.start.specs.Starts.{ValidStart, startedVoice, startAt, entryStart, requestStart, atRate, toneVoice, polyBlepVoice};
+ghost use Rattle.start.specs.Starts.{startedVoice, startAt, entryStart, requestStart, toldStart, atRate, toneVoice, polyBlepVoice};
 use bank::BankSet;
 use bank::EffectEntry;
 use bank::EntryRead;
@@ -49,7 +50,7 @@ fn started_voice(rate: u32, gain_q8: u8, priority: u8, source: VoiceSource, adsr
 // An entry whose payload is whole.
 fn start_at(rate: u32, entry: EffectEntry, adsr: AdsrSpec, priority: u8) -> EntryStart
     requires { ⌜ rate ≤ 65537 ⌝ }
-    ensures { λ r. ⌜ Made ValidStart (startAt rate entry adsr priority) r ⌝ }
+    ensures { λ r. ⌜ Answered toldStart Valid (startAt rate entry adsr priority) r ⌝ }
 {
     let kind = entry.kind;
     match VoiceSource::start_from_entry(kind, entry.param0, entry.param1, rate) {
@@ -72,13 +73,13 @@ pub fn start_entry(
     priority: u8,
 ) -> EntryStart
     requires { ⌜ ValidBank bank ⌝ }
-    ensures { λ r. ⌜ Made ValidStart (entryStart bank (now (bytes .entry)) entry adsr priority) r ⌝ }
+    ensures { λ r. ⌜ Answered toldStart Valid (entryStart bank (now (bytes .entry)) entry adsr priority) r ⌝ }
 {
     match bank {
         BankSet::None => EntryStart::Refused(AudioError::NoBank),
         BankSet::Bank(b) => match bank::payload_number(bank, bytes, entry.offset, entry.len) {
             PayloadRead::Refused(e) => EntryStart::Refused(e),
-            PayloadRead::Whole => start_at(b.sample_rate_hz, entry, adsr, priority),
+            PayloadRead::Whole => start_at(b.sample_rate_hz(), entry, adsr, priority),
         },
     }
 }
@@ -86,7 +87,7 @@ pub fn start_entry(
 // All that turns a play request down, but for a voice to put it in.
 pub fn start_request(bank: BankSet, bytes: &[u8], request: Request) -> EntryStart
     requires { ⌜ ValidBank bank ⌝ }
-    ensures { λ r. ⌜ Made ValidStart (requestStart bank (now (bytes .entry)) request) r ⌝ }
+    ensures { λ r. ⌜ Answered toldStart Valid (requestStart bank (now (bytes .entry)) request) r ⌝ }
 {
     match bank::find_by_id(bank, bytes, request.id) {
         EntryRead::Refused(e) => EntryStart::Refused(e),
@@ -98,7 +99,7 @@ pub fn start_request(bank: BankSet, bytes: &[u8], request: Request) -> EntryStar
 }
 
 pub fn tone_voice(freq_hz: u32, duration_ms: u16, waveform: Waveform, rate: u32) -> EntryStart
-    ensures { λ r. ⌜ Made ValidStart (atRate rate (toneVoice «freq_hz» «duration_ms» waveform rate)) r ⌝ }
+    ensures { λ r. ⌜ Answered toldStart Valid (atRate rate (toneVoice «freq_hz» «duration_ms» waveform rate)) r ⌝ }
 {
     if rate > 65537 {
         return EntryStart::Refused(AudioError::BadRate);
@@ -113,7 +114,7 @@ pub fn polyblep_voice(
     waveform: PolyBlepWaveform,
     rate: u32,
 ) -> EntryStart
-    ensures { λ r. ⌜ Made ValidStart (atRate rate (polyBlepVoice «freq_hz» «duration_ms» waveform rate)) r ⌝ }
+    ensures { λ r. ⌜ Answered toldStart Valid (atRate rate (polyBlepVoice «freq_hz» «duration_ms» waveform rate)) r ⌝ }
 {
     if rate > 65537 {
         return EntryStart::Refused(AudioError::BadRate);

@@ -4,6 +4,7 @@ use Rattle.tier.specs.declared.EffectKind.{EffectKind}
 use Rattle.tier.specs.declared.EffectKind.the-variants as K
 use Rattle.tier.specs.declared.KindRead.{KindRead}
 use Rattle.tier.specs.declared.KindRead.the-variants.{Kind, Unknown}
+use Rattle.tier.specs.declared.flags.Bits.{Bits}
 use mathlib.Core.Bool.{cond}
 use lib.Dec.{eqb}
 
@@ -24,3 +25,7 @@ byteOf K.Fm = 2
 byteOf K.Pcm8 = 3
 byteOf K.Adpcm = 4
 byteOf K.SigmaDeltaBits = 5
+
+-- tier.rs: bits 0, 1 and 2 of the flags byte
+abbrev pub flagBits : Bits
+flagBits = record { looped = 1; «one_shot» = 2; signed = 4 }

@@ -2,6 +2,8 @@
 ghost use mathlib.Core.Path.{_≡_};
 ghost use Rattle.tier.specs.Kinds.{kindOf, byteOf};
 
+pub mod flags;
+
 pub enum EffectKind {
     Tone,
     Wavetable,

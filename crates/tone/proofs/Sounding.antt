@@ -13,7 +13,7 @@ use Rattle.laws.specs.Runs.{after, given}
 use Rattle.fixed.specs.Answers.{heard, Filled}
 use Rattle.fixed.specs.declared.Given.{Given}
 use Rattle.fixed.specs.declared.Given.the-variants as G
-use Rattle.tone.specs.Blocks.{Waved, lessBy}
+use Rattle.tone.specs.Blocks.{Waved, givenBy, lessBy}
 use Rattle.tone.specs.Duration.{forever, lessOne}
 use Rattle.laws.proofs.Stores.{length-cells, sets-front}
 use Rattle.tone.proofs.Loops.{waves}
@@ -56,6 +56,23 @@ less-room n left h = by-test (eqb left forever) refl
     by-test : (t : Bool) → eqb left forever ≡ t → n ≤ cond t forever (left - 1)
     by-test true e = let q = eqb-true left forever e in omega arith
     by-test false e = omega arith
+
+-- a block is far shorter than what stands for "never ends"
+given-few : (left n : ℕ) → n < forever → givenBy left n ≡ min left n
+unfolding givenBy
+given-few left n h = by-test (eqb left forever) refl
+  where
+    by-test : (t : Bool) → eqb left forever ≡ t → cond t n (min left n) ≡ min left n
+    by-test true e = let q = eqb-true left forever e in sym (min-eq-right (omega arith))
+    by-test false e = refl
+
+pub given-most : (left n : ℕ) → givenBy left n ≤ n
+unfolding givenBy
+given-most left n = by-test (eqb left forever)
+  where
+    by-test : (t : Bool) → cond t n (min left n) ≤ n
+    by-test true = omega arith
+    by-test false = omega arith
 
 -- ---- requests
 -- a source at a phase, with so many samples left, sounding or not: what a request makes of it, and what it gives
@@ -144,9 +161,10 @@ module _ {P S : Type 0} {move : P → P} {wave : P → ℤ} {at : P → ℕ → 
 
     -- what the code works out, where its oscillator sounds
     pub block : {s : S} {count rest : ℕ} {cells filled : List ℤ} {next : P} → s ≡ at p left true → left ≤ forever → n ≤ length cells
-        → count ≡ min left n → rest ≡ lessBy left count → Waved move wave count p cells next filled
+        → count ≡ givenBy left n → rest ≡ lessBy left count → Waved move wave count p cells next filled
         → Block step gives s n cells (at next rest (eqb count n)) count filled
-    block {cells = cells} e l h k r w =
+    block {cells = cells} e l h g r w =
+        let k = g ∙ given-few left n short in
         let d : length (waves move wave (min left n) p) ≡ min left n = length-cells move wave (min left n) p in
         let v = rw k at w in
         record {

@@ -1,5 +1,5 @@
--- Requests for samples one after another, a block of them at once. Assumes nothing.
-use Prim.Native.Nat.{ℕ, _+_, _-_, _%_, _^_}
+-- Inner: requests for samples one after another, a block of them at once. Assumes nothing.
+use Prim.Native.Nat.{ℕ, _+_, _-_, _%_, _^_, min}
 use mathlib.Core.Path.{_≡_}
 use mathlib.Core.Bool.{cond}
 use mathlib.Core.List.{List, [], _∷_}
@@ -19,6 +19,10 @@ use Rattle.tone.specs.declared.blocks.ToneFilled.{ToneFilled}
 -- n samples fewer, unless the source never ends
 unfoldable pub lessBy : ℕ → ℕ → ℕ
 lessBy left n = cond (eqb left forever) forever (left - n)
+
+-- how many of n requests give a sample: as many as are left, and all where the source never ends
+unfoldable pub givenBy : ℕ → ℕ → ℕ
+givenBy left n = cond (eqb left forever) n (min left n)
 
 -- the oscillator after n requests, and their answers
 abbrev pub toneAfter : ℕ → ToneVoice → ToneVoice

@@ -2,7 +2,7 @@
 ghost use mathlib.Core.Path.{_≡_};
 ghost use mathlib.Core.Bool.{true};
 ghost use Prim.Native.Nat.{_≤_, min};
-ghost use Rattle.tone.specs.Blocks.{Waved, ToneBlock, lessBy, turned, waveAt};
+ghost use Rattle.tone.specs.Blocks.{Waved, ToneBlock, givenBy, lessBy, turned, waveAt};
 ghost use Rattle.tone.specs.declared.Waveform.the-variants as W;
 use super::ToneVoice;
 use super::Waveform;
@@ -20,10 +20,13 @@ pub fn block_len(len: usize) -> usize
     if len < 256 { len } else { 256 }
 }
 
-// How many of len requests give a sample, where samples_left are left; a source that never ends lasts u32::MAX here.
+// How many of len requests give a sample, where samples_left are left.
 pub fn given_of(samples_left: u32, len: usize) -> usize
-    ensures { λ r. ⌜ r ≡ min «samples_left» len ⌝ }
+    ensures { λ r. ⌜ r ≡ givenBy «samples_left» len ⌝ }
 {
+    if samples_left == u32::MAX {
+        return len;
+    }
     if (samples_left as usize) < len {
         samples_left as usize
     } else {

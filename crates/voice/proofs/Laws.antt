@@ -8,8 +8,9 @@ use Rattle.envelope.specs.Adsrs as A
 use Rattle.fixed.specs.declared.Given.the-variants as G
 use Rattle.laws.proofs.Bools.{never}
 use Rattle.envelope.proofs.Laws as E
+use Rattle.error.specs.Told.{ValidTold}
 use Rattle.polyblep.proofs.Laws as B
-use Rattle.voice.specs.Sources.{activeSource, ValidSource, ValidStep, ValidStarted, steppedSource, startedEntry}
+use Rattle.voice.specs.Sources.{activeSource, ValidSource, ValidStep, steppedSource, startedEntry}
 use Rattle.voice.specs.Voices.{Valid, sounding, silentVoice, triggeredVoice, releasedVoice, stoppedVoice, audible, tickedVoice, steppedVoice}
 use Rattle.tier.specs.declared.EffectKind.{EffectKind}
 use Rattle.tier.specs.declared.EffectKind.the-variants as K
@@ -24,7 +25,7 @@ valid-source-stepped (S.Tone v) h = tt
 valid-source-stepped (S.PolyBlep v) h = B.valid-stepped v h
 valid-source-stepped (S.Fm v) h = tt
 
-pub valid-entry : (k : EffectKind) (param0 param1 rate : ℕ) → ValidStarted (startedEntry k param0 param1 rate)
+pub valid-entry : (k : EffectKind) (param0 param1 rate : ℕ) → ValidTold ValidSource (startedEntry k param0 param1 rate)
 unfolding startedEntry
 valid-entry K.Tone a b r = tt
 valid-entry K.Fm a b r = tt

@@ -1,4 +1,4 @@
--- Frames one after another, of one voice alone: "tick all envelopes (a voice then inaudible gets the idle source), take
+-- Inner: frames one after another, of one voice alone: "tick all envelopes (a voice then inaudible gets the idle source), take
 -- samples". Assumes nothing.
 use Prim.Native.Nat.{ℕ, zero, suc}
 use mathlib.Core.Bool.{Bool, cond, _||_}

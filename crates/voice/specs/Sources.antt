@@ -3,7 +3,8 @@ use Prim.Native.Nat.{ℕ}
 use mathlib.Core.Bool.{Bool, true, false, cond}
 use lib.Dec.{eqb}
 use Rattle.envelope.specs.Adsrs.{clickSpec}
-use Rattle.error.specs.declared.AudioError.the-variants as E
+use Rattle.error.specs.Numbers.{numberOf}
+use Rattle.error.specs.Told.{Told, value, refused}
 use Rattle.fixed.specs.declared.Given.the-variants as G
 use Rattle.fm.specs.Fm.{startedFm, steppedFm}
 use Rattle.polyblep.specs.declared.PolyBlepWaveform.{PolyBlepWaveform}
@@ -30,10 +31,6 @@ ValidSource (S.Fm v) = Unit {0}
 
 abbrev pub ValidStep : SourceStep → Type 0
 ValidStep s = ValidSource (s .source)
-
-abbrev pub ValidStarted : Started → Type 0
-ValidStarted (R.Source s) = ValidSource s
-ValidStarted (R.Refused e) = Unit {0}
 
 unfoldable pub activeSource : VoiceSource → Bool
 activeSource S.Idle = false
@@ -71,10 +68,14 @@ fmSource carrier ratio rate = S.Fm (startedFm carrier ratio 72 rate)
 
 -- "Kind 0 is a sine tone of param0 Hz for param1 ms. Kind 2 is FM, carrier param0, ratio param1"; "kind 1, 3, 4 or 5 | 10
 -- NotCarried"
-unfoldable pub startedEntry : EffectKind → ℕ → ℕ → ℕ → Started
-startedEntry K.Tone param0 param1 rate = R.Source (toneSource param0 param1 W.Sine rate)
-startedEntry K.Fm param0 param1 rate = R.Source (fmSource param0 param1 rate)
-startedEntry K.Wavetable param0 param1 rate = R.Refused E.NotCarried
-startedEntry K.Pcm8 param0 param1 rate = R.Refused E.NotCarried
-startedEntry K.Adpcm param0 param1 rate = R.Refused E.NotCarried
-startedEntry K.SigmaDeltaBits param0 param1 rate = R.Refused E.NotCarried
+unfoldable pub startedEntry : EffectKind → ℕ → ℕ → ℕ → Told VoiceSource
+startedEntry K.Tone param0 param1 rate = value (toneSource param0 param1 W.Sine rate)
+startedEntry K.Fm param0 param1 rate = value (fmSource param0 param1 rate)
+startedEntry K.Wavetable param0 param1 rate = refused 10
+startedEntry K.Pcm8 param0 param1 rate = refused 10
+startedEntry K.Adpcm param0 param1 rate = refused 10
+startedEntry K.SigmaDeltaBits param0 param1 rate = refused 10
+
+abbrev pub toldSource : Started → Told VoiceSource
+toldSource (R.Source s) = value s
+toldSource (R.Refused e) = refused (numberOf e)

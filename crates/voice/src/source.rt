@@ -1,7 +1,8 @@
 // What one voice sounds: a choice of idle, tone, PolyBLEP or FM.
 ghost use mathlib.Core.Path.{_≡_};
 ghost use Rattle.laws.specs.Made.{Made};
-ghost use Rattle.voice.specs.Sources.{ValidSource, ValidStep, ValidStarted, activeSource, carrierOf, carrierGiven, steppedSource, toneSource, polyBlepSource, fmSource, startedEntry};
+ghost use Rattle.error.specs.Told.{Answered};
+ghost use Rattle.voice.specs.Sources.{ValidSource, ValidStep, activeSource, carrierOf, carrierGiven, steppedSource, toneSource, polyBlepSource, fmSource, startedEntry, toldSource};
 use envelope::AdsrSpec;
 use error::AudioError;
 use fixed::Given;
@@ -152,7 +153,7 @@ impl VoiceSource {
         param1: u16,
         sample_rate_hz: u32,
     ) -> Started
-        ensures { λ r. ⌜ Made ValidStarted (startedEntry kind param0 param1 «sample_rate_hz») r ⌝ }
+        ensures { λ r. ⌜ Answered toldSource ValidSource (startedEntry kind param0 param1 «sample_rate_hz») r ⌝ }
     {
         match kind {
             EffectKind::Tone => Started::Source(VoiceSource::start_tone(

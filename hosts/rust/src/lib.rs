@@ -61,11 +61,9 @@ pub fn duty_of(sample: i8, period: u16) -> Result<u16, Refusal> {
     Ok(out)
 }
 
-/// What a fade of so many milliseconds gains with each frame, of 255, at rates up to 65,537.
-pub fn fade_step(duration_ms: u16, sample_rate_hz: u32) -> Result<u8, Refusal> {
-    let mut out = 0;
-    Refusal::read(unsafe { raw::birchjack_fade_step(duration_ms, sample_rate_hz, &mut out) })?;
-    Ok(out)
+/// What a fade of so many milliseconds gains with each frame, of 255. The product of the two is taken modulo 2^32.
+pub fn fade_step(duration_ms: u16, sample_rate_hz: u32) -> u8 {
+    unsafe { raw::birchjack_fade_step(duration_ms, sample_rate_hz) }
 }
 
 /// An envelope's times in milliseconds and its sustain level.

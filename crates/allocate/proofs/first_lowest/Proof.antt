@@ -7,13 +7,13 @@ use borrow.Author.Needs.{needs}
 use lib.ListN.{length, take, drop}
 use Rattle.ranking.specs.Rule.{firstLowest}
 use Rattle.ranking.proofs.Scans.{lowestFrom, lowest-scan, lower-here, lower-on, lowest-end}
-use Rattle.allocate.specs.Allocation.{placeOf, priorityOf}
+use Rattle.allocate.specs.Allocation.{placeOf, toldPlace, priorityOf}
 use Rattle.allocate.proofs.first_lowest.Statement.{statement}
 use Rattle.allocate.proofs.first_lowest.Tie as tie
 
 abbrev Inv-loop : tie.InvT-loop
 Inv-loop n priority voices best₀ lowest₀ i₀ best lowest i =
-    (i ≤ n) × (placeOf (firstLowest priorityOf (take n voices) priority) ≡ lowestFrom placeOf priorityOf best lowest i (drop i (take n voices)))
+    (i ≤ n) × (placeOf (firstLowest priorityOf (take n voices) priority) ≡ lowestFrom placeOf priorityOf (toldPlace best) lowest i (drop i (take n voices)))
 
 abbrev μ-loop : tie.MeasureT-loop
 μ-loop n priority voices best₀ lowest₀ i₀ best lowest i = n - i
@@ -34,7 +34,7 @@ returns : tie.Need-returns Inv-loop μ-loop
 returns c =
     let a = c .before .before .args in
     let h : c .before .loop .i ≡ a .n = omega arith in
-    sym (c .before .loop .inv .1 ∙ rw (h, lowest-end placeOf priorityOf (c .before .loop .best) (c .before .loop .lowest) (a .n) (a .t1)))
+    sym (c .before .loop .inv .1 ∙ rw (h, lowest-end placeOf priorityOf (toldPlace (c .before .loop .best)) (c .before .loop .lowest) (a .n) (a .t1)))
 
 pub first-lowest-spec : {M : Type 1} → statement M
 first-lowest-spec =

@@ -2,23 +2,25 @@
 use Prim.Native.Nat.{_≤_}
 use borrow.Author.Needs.{needs}
 use borrow.Author.Tests.{lt-ltb, le-ltb}
-use mathlib.Core.Path.{_≡_, sym, _∙_}
+use mathlib.Core.Path.{_≡_, sym, ap, _∙_}
 use native.Mathlib.Omega.{arith}
 use lib.ListN.{length}
-use Rattle.bank.specs.declared.BankRead.the-variants as B
+use Rattle.error.specs.Told.{value}
 use Rattle.bank.specs.Entries.{placeOf}
-use Rattle.bank.specs.Banks.{lentBank}
+use Rattle.bank.specs.Banks.{lentBank, toldBank}
 use Rattle.bank.specs.Search.{decided}
 use Rattle.bank.proofs.Laws.{lent-holds}
 use Rattle.bank.proofs.find_by_id.Statement.{statement}
 use Rattle.bank.proofs.find_by_id.Tie as tie
 
 -- the bank that the checks in front give
-given : (c : tie.After-b) → lentBank (c .before .before .before .before .args .bank) (length (c .before .before .before .before .args .bytes .now)) ≡ B.Bank (c .b .given .0 .0)
-given c = sym (c .before .before .lent-bank .ensures) ∙ c .b .given .1
+given : (c : tie.After-b) → lentBank (c .before .before .before .before .args .bank) (length (c .before .before .before .before .args .bytes .now)) ≡ value (c .b .given .0 .0)
+given c = sym (c .before .before .lent-bank .ensures) ∙ ap toldBank (c .b .given .1)
 
 held : (c : tie.After-b) → placeOf (c .b .given .0 .0 .«effect_count») ≤ length (c .before .before .before .before .args .bytes .now)
-held c = lent-holds (c .before .before .before .before .args .bank) (c .b .given .0 .0) (length (c .before .before .before .before .args .bytes .now)) (given c)
+held c =
+    let s = c .before .before .before .before in
+    lent-holds (s .args .bank) (c .b .given .0 .0) (length (s .args .bytes .now)) (s .pre) (given c)
 
 halve-requires : tie.Need-halve-requires
 halve-requires c κs = held (c .before .before)
@@ -44,7 +46,7 @@ returns-2 c =
     rw (c .read-at2 .ensures, given (h .before .before .before), h .halve .ensures, le-ltb _ _ (s .before .if1 .left), s .scan .ensures, lt-ltb _ _ (c .before .if2 .taken))
 
 returns-3 : tie.Need-returns-3
-returns-3 c = rw (sym (c .before .before .before .lent-bank .ensures) ∙ c .before .e .given .1)
+returns-3 c = rw (sym (c .before .before .before .lent-bank .ensures) ∙ ap toldBank (c .before .e .given .1))
 
 returns-4 : tie.Need-returns-4
 unfolding decided

@@ -26,21 +26,21 @@ returns-2 c =
     let w = c .before in
     let l = w .before .before .before .before in
     let a = l .before .before .args in
-    halving-hit (a .bytes .now) (a .count) (a .id) (l .loop .low) (l .loop .size) (omega arith) (l .loop .inv) (decided (a .bytes .now) (a .id) (upTo (a .count))) (w .before .if1 .left) (sym (w .wide-at .ensures) ∙ c .if2 .taken)
+    halving-hit (a .bytes .now) (a .count) (a .id) (l .loop .low) (l .loop .size) (omega arith) (l .loop .inv) (decided (a .bytes .now) (a .id) (upTo (a .count))) (w .before .if1 .left) (sym (w .little16-at .ensures) ∙ c .if2 .taken)
 
 loop-again : tie.Need-loop-again Inv-loop μ-loop
 loop-again c =
     let w = c .before .before in
     let l = w .before .before .before .before in
     let a = l .before .before .args in
-    halving-right (a .bytes .now) (a .count) (a .id) (l .loop .low) (l .loop .size) (omega arith) (l .loop .inv) (w .before .if1 .left) (rw (w .wide-at .ensures) at (c .if3 .taken))
+    halving-right (a .bytes .now) (a .count) (a .id) (l .loop .low) (l .loop .size) (omega arith) (l .loop .inv) (w .before .if1 .left) (rw (w .little16-at .ensures) at (c .if3 .taken))
 
 loop-again-2 : tie.Need-loop-again-2 Inv-loop μ-loop
 loop-again-2 c =
     let w = c .before .before in
     let l = w .before .before .before .before in
     let a = l .before .before .args in
-    halving-left (a .bytes .now) (a .count) (a .id) (l .loop .low) (l .loop .size) (omega arith) (l .loop .inv) (w .before .if1 .left) (λ e. c .before .if2 .left (w .wide-at .ensures ∙ e)) (rw (w .wide-at .ensures) at (c .if3 .left))
+    halving-left (a .bytes .now) (a .count) (a .id) (l .loop .low) (l .loop .size) (omega arith) (l .loop .inv) (w .before .if1 .left) (λ e. c .before .if2 .left (w .little16-at .ensures ∙ e)) (rw (w .little16-at .ensures) at (c .if3 .left))
 
 returns-3 : tie.Need-returns-3 Inv-loop μ-loop
 returns-3 c =

@@ -1,14 +1,13 @@
 -- `bank::lent_bank` meets its contract: its tests are the definition's, in its order.
 use borrow.Author.Needs.{needs}
-use borrow.Author.Tests.{eq-eqb, ne-eqb, lt-ltb, le-ltb}
+use borrow.Author.Tests.{eq-eqb, ne-eqb}
 use native.Mathlib.Omega.{arith}
-use Rattle.bank.specs.Entries.{placeOf}
-use Rattle.bank.specs.Banks.{lentBank, holding}
+use Rattle.bank.specs.Banks.{lentBank}
 use Rattle.bank.proofs.lent_bank.Statement.{statement}
 use Rattle.bank.proofs.lent_bank.Tie as tie
 
 returns : tie.Need-returns
-unfolding lentBank holding
+unfolding lentBank
 returns c =
     let b = c .before .before .before in
     rw (b .bank .given .1, ne-eqb (b .before .before .args .lent) (b .bank .given .0 .0 .len) (λ e. omega arith))
@@ -18,29 +17,10 @@ unfolding lentBank
 returns-2 c = rw (c .enum-told .given .1)
 
 returns-3 : tie.Need-returns-3
-unfolding lentBank holding
+unfolding lentBank
 returns-3 c =
-    let b = c .before .before .before .before .before in
-    let lent = b .before .before .args .lent in
-    rw (b .bank .given .1, eq-eqb lent (b .bank .given .0 .0 .len) (omega arith), lt-ltb lent (placeOf (b .bank .given .0 .0 .«effect_count»)) (omega arith))
-
-returns-4 : tie.Need-returns-4
-unfolding lentBank holding
-returns-4 c =
-    let b = c .before .before .before .before .before in
-    let lent = b .before .before .args .lent in
-    rw (b .bank .given .1, eq-eqb lent (b .bank .given .0 .0 .len) (omega arith), le-ltb lent (placeOf (b .bank .given .0 .0 .«effect_count»)) (omega arith))
+    let b = c .before .before .before in
+    rw (b .bank .given .1, eq-eqb (b .before .before .args .lent) (b .bank .given .0 .0 .len) (omega arith))
 
 pub lent-bank-spec : {M : Type 1} → statement M
-lent-bank-spec =
-    tie.close
-    (tie.spec
-    (λ c. search needs)
-    (λ c. search needs)
-    returns
-    (λ c. search needs)
-    (λ c. search needs)
-    (λ c. search needs)
-    returns-2
-    returns-3
-    returns-4)
+lent-bank-spec = tie.close (tie.spec (λ c. search needs) (λ c. search needs) returns returns-2 returns-3)

@@ -14,7 +14,7 @@ unfolding entryAt fieldsAt
 returns-2 c =
     let w = c .before .before .before .before .before .before in
     let k = w .before .before in
-    rw (sym (k .before .before .from-u8 .ensures) ∙ k .kind .given .1, w .wide-at .ensures, c .before .before .before .wide-at2 .ensures, c .before .before .wide-at3 .ensures, c .before .long-at .ensures, c .wide-at4 .ensures)
+    rw (sym (k .before .before .from-u8 .ensures) ∙ k .kind .given .1, w .little16-at .ensures, c .before .before .before .little16-at2 .ensures, c .before .before .little16-at3 .ensures, c .before .little32-at .ensures, c .little16-at4 .ensures)
 
 pub read-at-spec : {M : Type 1} → statement M
 read-at-spec =

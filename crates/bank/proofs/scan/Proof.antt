@@ -28,14 +28,14 @@ returns-2 c =
     let w = c .before in
     let l = w .before .before .before .before in
     let a = l .before .before .args in
-    scanning-hit (a .bytes .now) (a .count) (a .id) (l .loop .i) (omega arith) (l .loop .inv) (decided (a .bytes .now) (a .id) []) (w .before .if1 .left) (sym (w .wide-at .ensures) ∙ c .if2 .taken)
+    scanning-hit (a .bytes .now) (a .count) (a .id) (l .loop .i) (omega arith) (l .loop .inv) (decided (a .bytes .now) (a .id) []) (w .before .if1 .left) (sym (w .little16-at .ensures) ∙ c .if2 .taken)
 
 loop-again : tie.Need-loop-again Inv-loop μ-loop
 loop-again c =
     let w = c .before in
     let l = w .before .before .before .before in
     let a = l .before .before .args in
-    scanning-on (a .bytes .now) (a .count) (a .id) (l .loop .i) (omega arith) (l .loop .inv) (w .before .if1 .left) (λ e. c .if2 .left (w .wide-at .ensures ∙ e))
+    scanning-on (a .bytes .now) (a .count) (a .id) (l .loop .i) (omega arith) (l .loop .inv) (w .before .if1 .left) (λ e. c .if2 .left (w .little16-at .ensures ∙ e))
 
 returns-3 : tie.Need-returns-3 Inv-loop μ-loop
 returns-3 c =

@@ -13,7 +13,7 @@ use Rattle.mixer.specs.declared.Mixer.{Mixer}
 use Rattle.frame.specs.Runs.{stereoStep}
 use Rattle.voice.proofs.Runs.{valid-frames}
 use Rattle.voice.specs.Blocks.{voiceStep}
-use Rattle.block.specs.Blocks.{Slow, movedOn}
+use Rattle.block.specs.Parts.{Slow, movedOn}
 use Rattle.block.proofs.Cells.{written-as}
 use Rattle.block.proofs.Frames.{runAll, sideAt, after-stereo}
 use Rattle.block.proofs.Gather.{Summed, summed-none, given-few, turn-voices, turn-left, turn-right, left-cell, right-cell}

@@ -10,10 +10,11 @@ use Rattle.laws.specs.Runs.{after}
 use Rattle.frame.specs.Runs.{monoStep}
 use Rattle.frame.proofs.Laws.{valid-mapper}
 use Rattle.mixer.specs.Mixers.{Valid}
+use Rattle.error.proofs.Told.{value-is, not-refused}
+use Rattle.output.specs.Duty.{toldPeriod}
 use Rattle.output.proofs.Laws.{period-accepted}
 use Rattle.buffers.specs.Buffers.{toU12, toU16}
 use Rattle.buffers.proofs.Duties.{state-is, cells-are}
-use Rattle.buffers.proofs.Periods.{period-is, not-refused}
 use Rattle.buffers.proofs.Sounds.{pcm, block-cells, block-whole, once-cells}
 use Rattle.buffers.proofs.level_block.Statement.{statement}
 use Rattle.buffers.proofs.level_block.Tie as tie
@@ -62,7 +63,7 @@ returns-3 c =
     let a = start b .args in
     let q = d .put-duties .result in
     let e = d .put-duties .ensures in
-    let per = period-is _ _ (sym (p .period .given .1) ∙ n .new .ensures .same ∙ period-accepted _ (state b .valid .period)) in
+    let per = value-is (sym (ap toldPeriod (p .period .given .1)) ∙ n .new .ensures .same ∙ period-accepted _ (state b .valid .period)) in
     let cells = block-cells monoStep pcm (a .n) (a .m) _ (start b .pre .1 .0) (b .mono-block .ensures .cells) in
     rw (t .enum-told3 .given .1) (
       record { same = state-is (a .m) (b .mono-block .result) (a .n) _ _ (state b .same) per cells q (e .0 .same); valid = valid-mapper q (e .0 .valid) (state b .valid) },
@@ -74,7 +75,7 @@ returns-4 c =
     let p = c .before in
     let n = p .before .before in
     let b = n .before .before .before .before .before in
-    not-refused _ _ (sym (n .new .ensures .same ∙ period-accepted _ (state b .valid .period)) ∙ p .e .given .1)
+    not-refused (sym (n .new .ensures .same ∙ period-accepted _ (state b .valid .period)) ∙ ap toldPeriod (p .e .given .1))
 
 pub level-block-spec : {M : Type 1} → statement M
 level-block-spec =

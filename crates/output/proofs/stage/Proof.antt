@@ -8,7 +8,7 @@ use mir.Syntax.{w32}
 use mir.Val.{SFits, toZ, ofZ}
 use mir.ValLaws.{toZ-ofZ}
 use Rattle.laws.proofs.Signed.{signed, mag-add, mag-fits, abs-fits}
-use Rattle.output.specs.Shapers.{level}
+use Rattle.output.specs.Shapers.{quantized}
 use Rattle.output.proofs.Laws.{level-rest}
 use Rattle.output.proofs.stage.Statement.{statement}
 use Rattle.output.proofs.stage.Tie as tie
@@ -23,21 +23,21 @@ fitC c = mag-fits 65534 (small c) tt
 sumC : (c : tie.Start) → toZ w32 (ofZ w32 (toZ w32 (ofZ w32 (c .args .e)) +ℤ toZ w32 (ofZ w32 (c .args .x)))) ≡ c .args .e +ℤ c .args .x
 sumC c = let f = fitC c in search signed
 
-restC : (c : tie.Start) → SFits w32 (c .args .e +ℤ c .args .x -ℤ level (c .args .e +ℤ c .args .x))
+restC : (c : tie.Start) → SFits w32 (c .args .e +ℤ c .args .x -ℤ quantized (c .args .e +ℤ c .args .x))
 restC c = abs-fits 32767 (level-rest (c .args .e +ℤ c .args .x) (small c)) tt
 
-high : (z : ℤ) → leZ (pos 0) z ≡ true → level z ≡ pos 32767
-unfolding level
+high : (z : ℤ) → leZ (pos 0) z ≡ true → quantized z ≡ pos 32767
+unfolding quantized
 high z t = rw t
 
-low : (z : ℤ) → leZ (pos 0) z ≡ false → level z ≡ negsuc 32767
-unfolding level
+low : (z : ℤ) → leZ (pos 0) z ≡ false → quantized z ≡ negsuc 32767
+unfolding quantized
 low z t = rw t
 
-highC : (c : tie.Then1) → level (c .before .args .e +ℤ c .before .args .x) ≡ pos 32767
+highC : (c : tie.Then1) → quantized (c .before .args .e +ℤ c .before .args .x) ≡ pos 32767
 highC c = high (c .before .args .e +ℤ c .before .args .x) (rw (sumC (c .before)) at (c .if1 .taken))
 
-lowC : (c : tie.Else1) → level (c .before .args .e +ℤ c .before .args .x) ≡ negsuc 32767
+lowC : (c : tie.Else1) → quantized (c .before .args .e +ℤ c .before .args .x) ≡ negsuc 32767
 lowC c = low (c .before .args .e +ℤ c .before .args .x) (rw (sumC (c .before)) at (c .if1 .left))
 
 restHigh : (c : tie.Then1) → SFits w32 (c .before .args .e +ℤ c .before .args .x -ℤ pos 32767)

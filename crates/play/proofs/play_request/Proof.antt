@@ -1,8 +1,11 @@
 -- The voice that is allocated and the start that is given. Assumes nothing.
 use Prim.Native.Nat.{_<_}
-use mathlib.Core.Path.{_≡_, sym, _∙_}
+use mathlib.Core.Path.{_≡_, sym, ap, _∙_}
 use native.Mathlib.Omega.{arith}
 use borrow.Author.Needs.{needs}
+use Rattle.error.proofs.Told.{refusal-number}
+use Rattle.allocate.specs.Allocation.{toldPlace}
+use Rattle.start.specs.Starts.{toldStart}
 use Rattle.play.specs.Plays.{played}
 use Rattle.mixer.proofs.Laws.{valid-stored}
 use Rattle.allocate.proofs.Choice.{allocated-below}
@@ -17,14 +20,14 @@ there : (c : tie.After-known-told3) → c .before .before .before .before .befor
 there c =
     let g = c .before .before .before in
     let f = g .before .before .before .before in
-    allocated-below (start c .args .m) (start c .args .request .priority) _ (sym (f .allocate-voice .ensures) ∙ g .before .before .i .given .1)
+    allocated-below (start c .args .m) (start c .args .request .priority) _ (sym (f .allocate-voice .ensures) ∙ ap toldPlace (g .before .before .i .given .1))
 
 returns : tie.Need-returns
 unfolding played
 returns c =
     let f = c .before .before in
     let s = f .before .before in
-    record { same = rw (sym (f .allocate-voice .ensures) ∙ c .enum-told .given .1); valid = s .pre }
+    record { same = rw (sym (f .allocate-voice .ensures) ∙ ap toldPlace (c .enum-told .given .1)); valid = s .pre }
 
 returns-2 : tie.Need-returns-2
 unfolding played
@@ -32,7 +35,7 @@ returns-2 c =
     let g = c .before .before .before in
     let f = g .before .before .before .before in
     record {
-      same = rw (sym (f .allocate-voice .ensures) ∙ g .before .before .i .given .1, sym (g .start-request .ensures .same) ∙ c .before .e .given .1);
+      same = rw (sym (f .allocate-voice .ensures) ∙ ap toldPlace (g .before .before .i .given .1), sym (g .start-request .ensures .same) ∙ ap toldStart (c .before .e .given .1), refusal-number (c .before .e .given .0 .0));
       valid = f .before .before .pre;
     }
 
@@ -42,7 +45,7 @@ returns-3 c =
     let g = c .before .before .before in
     let f = g .before .before .before .before in
     record {
-      same = rw (sym (f .allocate-voice .ensures) ∙ g .before .before .i .given .1, sym (g .start-request .ensures .same) ∙ c .before .v .given .1);
+      same = rw (sym (f .allocate-voice .ensures) ∙ ap toldPlace (g .before .before .i .given .1), sym (g .start-request .ensures .same) ∙ ap toldStart (c .before .v .given .1));
       valid = valid-stored _ _ (f .before .before .pre) (there c) (rw (c .before .v .given .1) at (g .start-request .ensures .valid));
     }
 

@@ -1,9 +1,10 @@
 -- The start's voice, put first: at a valid rate there is one. Assumes nothing.
-use mathlib.Core.Path.{_≡_, sym, _∙_}
+use mathlib.Core.Path.{_≡_, sym, ap, _∙_}
 use borrow.Author.Needs.{needs}
 use Rattle.start.proofs.Laws.{at-rate}
 use Rattle.play.specs.Plays.{toned}
-use Rattle.play.proofs.Laws.{voice-is, not-refused}
+use Rattle.error.proofs.Told.{value-is, not-refused}
+use Rattle.start.specs.Starts.{toldStart}
 use Rattle.play.proofs.play_tone.Statement.{statement}
 use Rattle.play.proofs.play_tone.Tie as tie
 
@@ -18,14 +19,14 @@ returns c =
     let f = c .before .before .before .before in
     let s = f .before .before in
     let r = c .first-sounding .ensures in
-    let e = voice-is _ _ (sym (c .before .before .v .given .1) ∙ f .tone-voice .ensures .same ∙ at-rate _ _ (s .pre .rate)) in
+    let e = value-is (sym (ap toldStart (c .before .before .v .given .1)) ∙ f .tone-voice .ensures .same ∙ at-rate _ _ (s .pre .rate)) in
     record { same = rw (r .same, e); valid = r .valid }
 
 returns-2 : tie.Need-returns-2
 returns-2 c =
     let f = c .before .before in
     let s = f .before .before in
-    not-refused _ _ (sym (f .tone-voice .ensures .same ∙ at-rate _ _ (s .pre .rate)) ∙ c .enum-told .given .1)
+    not-refused (sym (f .tone-voice .ensures .same ∙ at-rate _ _ (s .pre .rate)) ∙ ap toldStart (c .enum-told .given .1))
 
 pub play-tone-spec : {M : Type 1} → statement M
 play-tone-spec =

@@ -1,6 +1,7 @@
 -- The source of the entry's kind, in its voice. Assumes nothing.
 use borrow.Author.Needs.{needs}
-use mathlib.Core.Path.{sym, _∙_}
+use mathlib.Core.Path.{sym, ap, _∙_}
+use Rattle.voice.specs.Sources.{toldSource}
 use Rattle.start.specs.Starts.{startAt}
 use Rattle.start.proofs.start_at.Statement.{statement}
 use Rattle.start.proofs.start_at.Tie as tie
@@ -14,14 +15,14 @@ returns : tie.Need-returns
 unfolding startAt
 returns c =
     let s = c .before .before .before in
-    record { same = rw (sym (s .start-from-entry .ensures .same) ∙ c .before .e .given .1); valid = tt }
+    record { same = rw (sym (s .start-from-entry .ensures .same) ∙ ap toldSource (c .before .e .given .1)); valid = tt }
 
 returns-2 : tie.Need-returns-2
 unfolding startAt
 returns-2 c =
     let s = c .before .before .before .before in
     let v = c .started-voice .ensures in
-    record { same = rw (sym (s .start-from-entry .ensures .same) ∙ c .before .before .source .given .1, v .same); valid = v .valid }
+    record { same = rw (sym (s .start-from-entry .ensures .same) ∙ ap toldSource (c .before .before .source .given .1), v .same); valid = v .valid }
 
 pub start-at-spec : {M : Type 1} → statement M
 start-at-spec =

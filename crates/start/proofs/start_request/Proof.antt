@@ -1,6 +1,7 @@
 -- The entry that is found, started. Assumes nothing.
 use borrow.Author.Needs.{needs}
-use mathlib.Core.Path.{sym, _∙_}
+use mathlib.Core.Path.{sym, ap, _∙_}
+use Rattle.bank.specs.Entries.{toldEntry}
 use Rattle.start.specs.Starts.{requestStart}
 use Rattle.start.proofs.start_request.Statement.{statement}
 use Rattle.start.proofs.start_request.Tie as tie
@@ -9,13 +10,13 @@ returns : tie.Need-returns
 unfolding requestStart
 returns c =
     let s = c .before .before .before in
-    record { same = rw (sym (s .find-by-id .ensures) ∙ c .before .e .given .1); valid = tt }
+    record { same = rw (sym (s .find-by-id .ensures) ∙ ap toldEntry (c .before .e .given .1)); valid = tt }
 
 returns-2 : tie.Need-returns-2
 unfolding requestStart
 returns-2 c =
     let s = c .before .before .before .before .before in
-    rw (sym (s .find-by-id .ensures) ∙ c .before .before .before .entry .given .1) (c .start-entry .ensures)
+    rw (sym (s .find-by-id .ensures) ∙ ap toldEntry (c .before .before .before .entry .given .1)) (c .start-entry .ensures)
 
 pub start-request-spec : {M : Type 1} → statement M
 start-request-spec =

@@ -82,7 +82,7 @@ type Step<'a> = fn(&mut Plays<'a>);
 
 impl<'a> Plays<'a> {
     /// What a step may be, and how often it is beside the others.
-    const STEPS: [(u32, Step<'a>); 16] = [
+    const STEPS: [(u32, Step<'a>); 19] = [
         (50, Self::play),
         (2, Self::burst),
         (5, Self::allocate),
@@ -99,6 +99,9 @@ impl<'a> Plays<'a> {
         (2, Self::search),
         (2, Self::payload),
         (2, Self::open_refused),
+        (6, Self::plain_play),
+        (3, Self::told),
+        (2, Self::voice),
     ];
 
     fn step(&mut self) {
@@ -280,6 +283,26 @@ impl<'a> Plays<'a> {
         self.script.record(0x13, &fields);
     }
 
+    /// Without a priority.
+    fn plain_play(&mut self) {
+        let mut fields = vec![u16(self.id())];
+        fields.extend(self.envelope());
+        self.script.record(0x62, &fields);
+    }
+
+    /// What the engine was opened with, and has now.
+    fn told(&mut self) {
+        self.script.record(0x64, &[]);
+        self.script.record(0x65, &[]);
+    }
+
+    /// A voice and its pan, also of voices that are not there.
+    fn voice(&mut self) {
+        let voice = self.place();
+        self.script.record(0x63, &[u8(voice)]);
+        self.script.record(0x69, &[u8(voice)]);
+    }
+
     /// Many of the fades are long: with 255 samples or more each frame is one step.
     fn fade(&mut self) {
         let (short, any) = (self.draw.below(60) as u16, self.draw.u16());
@@ -304,13 +327,17 @@ impl<'a> Plays<'a> {
         self.script.record(code, &[u32(hz), u16(ms), u8(waveform)]);
     }
 
-    /// Also of voices that are not there.
-    fn pan(&mut self) {
+    /// A voice's place, also of voices that are not there.
+    fn place(&mut self) -> u8 {
         let (any, near) = (
             self.draw.u8(),
             self.draw.below(self.voices as u32 + 2) as u8,
         );
-        let voice = self.draw.pick(&[near, near, near, any]);
+        self.draw.pick(&[near, near, near, any])
+    }
+
+    fn pan(&mut self) {
+        let voice = self.place();
         self.script.record(0x17, &[u8(voice), u8(self.draw.u8())]);
     }
 
@@ -342,7 +369,10 @@ impl<'a> Plays<'a> {
     }
 
     fn frame(&mut self) {
-        let code = 0x20 + self.draw.below(13) as u8;
+        let code = match self.draw.below(16) as u8 {
+            one @ 13.. => 0x66 + (one - 13),
+            place => 0x20 + place,
+        };
         if code > 0x2A {
             return self.script.record(code, &[]);
         }

@@ -33,7 +33,7 @@ struct Records<const N: usize>;
 
 impl<const N: usize> Records<N> {
     /// Code, number of bytes after it, and what answers it.
-    const ALL: [(u8, usize, Answer<N>); 26] = [
+    const ALL: [(u8, usize, Answer<N>); 34] = [
         (0x11, 6, set_bank),
         (0x13, 10, play),
         (0x14, 11, fade),
@@ -60,6 +60,14 @@ impl<const N: usize> Records<N> {
         (0x2B, 0, frames::one_stereo),
         (0x2C, 0, frames::one_duty),
         (0x30, 0, dump),
+        (0x62, 9, plain_play),
+        (0x63, 1, voice_pan),
+        (0x64, 0, policy),
+        (0x65, 0, config),
+        (0x66, 0, frames::one_pcm),
+        (0x67, 0, frames::one_pwm),
+        (0x68, 0, frames::one_wide_stereo),
+        (0x69, 1, voice),
     ];
 }
 
@@ -110,6 +118,12 @@ fn play<const N: usize>(engine: &mut Engine<N>, call: &mut Call) -> Answered {
     let fields = &mut call.fields;
     let (id, envelope, priority) = (fields.u16(), fields.envelope(), fields.u8());
     let voice = rules::play(engine, call.lent, id, envelope, priority);
+    call.answers.voice(voice)
+}
+
+fn plain_play<const N: usize>(engine: &mut Engine<N>, call: &mut Call) -> Answered {
+    let (id, envelope) = (call.fields.u16(), call.fields.envelope());
+    let voice = rules::plain_play(engine, call.lent, id, envelope);
     call.answers.voice(voice)
 }
 
@@ -185,6 +199,34 @@ fn allocate<const N: usize>(engine: &mut Engine<N>, call: &mut Call) -> Answered
 fn audible<const N: usize>(engine: &mut Engine<N>, call: &mut Call) -> Answered {
     call.answers.hex(engine.is_playing() as i64, 2);
     call.answers.line(engine.active_voice_count() as i64, 2)
+}
+
+fn voice_pan<const N: usize>(engine: &mut Engine<N>, call: &mut Call) -> Answered {
+    match engine.voice_pan(call.fields.u8() as usize) {
+        Some(pan) => call.answers.line(0x100 | pan as i64, 4),
+        None => call.answers.line(0, 2),
+    }
+}
+
+fn policy<const N: usize>(engine: &mut Engine<N>, call: &mut Call) -> Answered {
+    call.answers.line(engine.stealing_policy() as i64, 2)
+}
+
+fn config<const N: usize>(engine: &mut Engine<N>, call: &mut Call) -> Answered {
+    let config = engine.config();
+    call.answers.hex(config.sample_rate_hz as i64, 8);
+    call.answers.hex(config.pwm_period as i64, 4);
+    call.answers.hex(config.duty_mode as i64, 2);
+    call.answers.line(config.master_gain_q8 as i64, 2)
+}
+
+/// As in a dump, or an empty line.
+fn voice<const N: usize>(engine: &mut Engine<N>, call: &mut Call) -> Answered {
+    if let Some(voice) = engine.voice(call.fields.u8() as usize) {
+        call.answers.fields(&state_of(voice));
+    }
+    call.answers.end_line();
+    Ok(())
 }
 
 fn dump<const N: usize>(engine: &mut Engine<N>, call: &mut Call) -> Answered {

@@ -1,4 +1,4 @@
-//! Records 20 to 2C: frames and buffers of them.
+//! Records 20 to 2C and 66 to 68: frames and buffers of them.
 
 use crate::engine::Call;
 use crate::fields::{Answered, Bad};
@@ -70,4 +70,18 @@ pub fn one_stereo<const N: usize>(engine: &mut Engine<N>, call: &mut Call) -> An
 
 pub fn one_duty<const N: usize>(engine: &mut Engine<N>, call: &mut Call) -> Answered {
     call.answers.line(engine.tick() as i64, 4)
+}
+
+pub fn one_pcm<const N: usize>(engine: &mut Engine<N>, call: &mut Call) -> Answered {
+    call.answers.line(engine.tick_pcm() as i64, 2)
+}
+
+pub fn one_pwm<const N: usize>(engine: &mut Engine<N>, call: &mut Call) -> Answered {
+    call.answers.line(engine.tick_pwm() as i64, 4)
+}
+
+pub fn one_wide_stereo<const N: usize>(engine: &mut Engine<N>, call: &mut Call) -> Answered {
+    let (left, right) = engine.tick_stereo_i16();
+    call.answers.hex(left as i64, 4);
+    call.answers.line(right as i64, 4)
 }

@@ -124,15 +124,34 @@ pub fn play<const N: usize>(
     envelope: AdsrSpec,
     priority: u8,
 ) -> Ruled<usize> {
-    let busy = engine.allocate_voice(priority).is_none();
-    if !busy && let Some(number) = added(engine, lent, id) {
-        return Err(number);
-    }
+    passes(engine, lent, id, priority)?;
     engine
         .lent(lent, |engine| {
             engine.play_with_priority(id, envelope, priority)
         })
         .map_err(number)
+}
+
+/// The call without a priority, which the original plays at 128.
+pub fn plain_play<const N: usize>(
+    engine: &mut Engine<N>,
+    lent: &[u8],
+    id: u16,
+    envelope: AdsrSpec,
+) -> Ruled<usize> {
+    passes(engine, lent, id, 128)?;
+    engine
+        .lent(lent, |engine| engine.play(id, envelope))
+        .map_err(number)
+}
+
+/// Whether what the port adds lets a play request through; where no voice is found the original says so first.
+fn passes<const N: usize>(engine: &mut Engine<N>, lent: &[u8], id: u16, priority: u8) -> Ruled<()> {
+    let busy = engine.allocate_voice(priority).is_none();
+    match added(engine, lent, id) {
+        Some(number) if !busy => Err(number),
+        _ => Ok(()),
+    }
 }
 
 pub fn fade<const N: usize>(

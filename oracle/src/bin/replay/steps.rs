@@ -56,12 +56,7 @@ pub fn duty(fields: &mut Fields, answers: &mut Answers) -> Answered {
 
 pub fn fade_step(fields: &mut Fields, answers: &mut Answers) -> Answered {
     let (ms, rate) = (fields.u16(), fields.u32());
-    let step = if rate > HIGHEST_RATE {
-        Err(BAD_RATE)
-    } else {
-        Ok(crossfade_step_q8(ms, rate) as i64)
-    };
-    answers.numbered(step, 2)
+    answers.numbered(Ok(crossfade_step_q8(ms, rate) as i64), 2)
 }
 
 pub fn envelope_levels(fields: &mut Fields, answers: &mut Answers) -> Answered {

@@ -7,12 +7,13 @@ use mathlib.Core.List.{List}
 use lib.IntN.{ℤ}
 use lib.ListN.{length, take}
 use lib.Seq.{sets}
-use Rattle.buffers.specs.Shapes.{wide, laid, Laid}
+use Rattle.buffers.specs.Shapes.{wide}
 use Rattle.buffers.specs.declared.Shape.{Shape}
 use Rattle.buffers.specs.declared.Shape.the-variants.{Once, Doubled, Sides}
 use Rattle.buffers.proofs.Cells.{laid-front}
 use Rattle.buffers.proofs.scales.lay.Statement.{statement}
 use Rattle.buffers.proofs.scales.lay.Tie as tie
+use Rattle.buffers.specs.Blocks.{laid, Laid}
 
 abbrev start : tie.After-whole3 → tie.Start
 start w = w .before .before .before .before .before .before .before

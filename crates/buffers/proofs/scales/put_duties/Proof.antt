@@ -5,10 +5,10 @@ use mathlib.Core.Path.{_≡_, refl, _∙_}
 use lib.IntN.{pos}
 use lib.ListN.{getD, take, drop}
 use Rattle.output.specs.Duty.{ValidMapper, mapped}
-use Rattle.buffers.specs.Buffers.{mappedOver, dutiesOver}
 use Rattle.buffers.proofs.Cells.{Putting, put-start, put-turn, put-end, duties-next, mapper-next, duties-none, mapper-none, through-byte}
 use Rattle.buffers.proofs.scales.put_duties.Statement.{statement}
 use Rattle.buffers.proofs.scales.put_duties.Tie as tie
+use Rattle.buffers.specs.Blocks.{mappedOver, dutiesOver}
 
 abbrev Inv-loop : tie.InvT-loop
 Inv-loop period raw k at out₀ state₀ i₀ out state i =

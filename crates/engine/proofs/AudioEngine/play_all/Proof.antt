@@ -12,9 +12,8 @@ use Rattle.mixer.specs.declared.Mixer.{Mixer}
 use Rattle.mixer.proofs.Laws.{valid-stored}
 use Rattle.allocate.specs.Ranked.{rankOf}
 use Rattle.allocate.proofs.Ranked.{map-set}
-use Rattle.error.specs.declared.AudioError.{AudioError}
-use Rattle.play.specs.Plays.{played}
-use Rattle.play.specs.declared.places.Placed.the-variants as L
+use Rattle.error.specs.Told.{value, refused}
+use Rattle.play.specs.Plays.{played, toldPlaced}
 use Rattle.play.proofs.Placing.{placed, placed-stored, placed-kept}
 use Rattle.voice.specs.Voices as S
 use Rattle.voice.specs.declared.Voice.{Voice}
@@ -50,12 +49,12 @@ module _ (start : Mixer) (bytes requests : List ℕ) (count i : ℕ) where
     playing-step after g = p .same ∙ rw (left-step h, ← g, k)
 
     -- a request that is turned down
-    playing-kept : (x : AudioError) → placed m bytes r ranks ≡ L.Refused x → Playing start bytes requests count (i + 1) m ranks
-    playing-kept x e =
-        record { within = omega arith; valid = p .valid; ranked = p .ranked; same = playing-step m (placed-kept m bytes r ranks x (p .ranked) e) }
+    playing-kept : (n : ℕ) → placed m bytes r ranks ≡ refused n → Playing start bytes requests count (i + 1) m ranks
+    playing-kept n e =
+        record { within = omega arith; valid = p .valid; ranked = p .ranked; same = playing-step m (placed-kept m bytes r ranks n (p .ranked) e) }
 
     -- one that gets a voice
-    playing-stored : (j : ℕ) (v : Voice) → placed m bytes r ranks ≡ L.Voice j v → S.Valid v
+    playing-stored : (j : ℕ) (v : Voice) → placed m bytes r ranks ≡ value (j, v) → S.Valid v
         → Playing start bytes requests count (i + 1) (withVoices m (set (m .voices) j v)) (set ranks j (rankOf v))
     playing-stored j v e w =
         let g = placed-stored m bytes r ranks j v (p .ranked) e in
@@ -88,7 +87,7 @@ below : (c : tie.After-k Inv-loop μ-loop) → c .k .given .0 .0 < 16
 below c =
     let s = c .before .before in
     let l = s .before .before .before .before .loop in
-    let g = placed-stored (l .state) _ _ (l .ranks) _ _ (l .inv .ranked) (sym (s .place .ensures .same) ∙ c .k .given .1) in
+    let g = placed-stored (l .state) _ _ (l .ranks) _ _ (l .inv .ranked) (sym (s .place .ensures .same) ∙ ap toldPlaced (c .k .given .1)) in
     omega (arith, g .1, l .inv .valid .few)
 
 loop-again : tie.Need-loop-again Inv-loop μ-loop
@@ -100,10 +99,10 @@ loop-again c =
     let q = r .request-at .ensures in
     let p = s .place .ensures in
     ⊎-elim
-    (λ w. rw (w .2, w .3) (playing-kept _ _ _ _ (l .i) (l .state) (l .ranks) _ (l .inv) h q _ (sym (p .same) ∙ w .1 .given .1)))
+    (λ w. rw (w .2, w .3) (playing-kept _ _ _ _ (l .i) (l .state) (l .ranks) _ (l .inv) h q _ (sym (p .same) ∙ ap toldPlaced (w .1 .given .1))))
     (λ w.
     rw (w .4, w .5, w .3 .ensures)
-    (playing-stored _ _ _ _ (l .i) (l .state) (l .ranks) _ (l .inv) h q _ _ (sym (p .same) ∙ w .1 .given .1) (rw (w .1 .given .1) at (p .valid))))
+    (playing-stored _ _ _ _ (l .i) (l .state) (l .ranks) _ (l .inv) h q _ _ (sym (p .same) ∙ ap toldPlaced (w .1 .given .1)) (rw (w .1 .given .1) at (p .valid))))
     (c .match .came)
 
 returns : tie.Need-returns Inv-loop μ-loop
@@ -124,10 +123,7 @@ play-all-spec =
     (λ c. omega arith)
     (λ c κs. omega arith)
     (λ c. sym (sixteen (c .before .before .before)))
-    (λ c κs.
-    let l = c .before .before .before in
-    let v = l .loop .inv .valid in
-    (v .few, (rw (sixteen l) (v .few), v .bank)))
+    (λ c κs. c .before .before .before .loop .inv .valid .bank)
     (λ c. search needs)
     (λ c. search needs)
     (λ c κs. search needs)

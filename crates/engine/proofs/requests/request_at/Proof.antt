@@ -10,7 +10,7 @@ returns c =
     let last = c .before in
     let third = last .before in
     let second = third .before .before in
-    rw (last .wide-at4 .ensures, third .wide-at3 .ensures, second .wide-at2 .ensures, second .before .wide-at .ensures)
+    rw (last .big16-at4 .ensures, third .big16-at3 .ensures, second .big16-at2 .ensures, second .before .big16-at .ensures)
 
 pub request-at-spec : {M : Type 1} → statement M
 request-at-spec =

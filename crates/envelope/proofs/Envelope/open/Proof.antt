@@ -16,7 +16,7 @@ unfolding opened
 returns c =
     let k : 65537 < c .before .args .sample-rate-hz = omega arith in
     let h : ltb 65537 (c .before .args .sample-rate-hz) ≡ true = lt-ltb _ _ k in
-    record { same = rw h; number = rw h; valid = tt }
+    record { same = rw h; valid = tt }
 
 returns-2 : tie.Need-returns-2
 unfolding opened
@@ -25,7 +25,6 @@ returns-2 c =
     let h : ltb 65537 (c .before .before .args .sample-rate-hz) ≡ false = le-ltb _ _ k in
     record {
       same = rw (h, c .new .ensures);
-      number = rw h;
       valid = record { inside = rw (c .new .ensures) (valid-idle k) };
     }
 

@@ -1,6 +1,7 @@
 -- `exports::levels::birchjack_envelope` meets its contract: the levels before the release, and those after it.
 use borrow.Author.Needs.{needs}
-use mathlib.Core.Path.{_≡_, sym, _∙_}
+use mathlib.Core.Path.{_≡_, sym, ap, _∙_}
+use Rattle.envelope.specs.Alone.{toldOpened}
 use Rattle.exports.proofs.levels.birchjack_envelope.Statement.{statement}
 use Rattle.exports.proofs.levels.birchjack_envelope.Tie as tie
 
@@ -14,7 +15,7 @@ returns c =
     let l1 = r .before .before .before in
     let g = l1 .before .before in
     let rd = g .before .before in
-    let e = sym (rd .before .before .«open» .ensures .same) ∙ rd .read .given .1 in
+    let e = sym (rd .before .before .«open» .ensures .same) ∙ ap toldOpened (rd .read .given .1) in
     record {
       number = rw e;
       cells = rw (e, sym (g .trigger .ensures .same), sym (l1 .levels .ensures .0 .same), sym (r .release .ensures .same))
@@ -23,7 +24,7 @@ returns c =
 
 returns-2 : tie.Need-returns-2
 returns-2 c =
-    let e = sym (c .before .before .before .before .«open» .ensures .same) ∙ c .before .before .read2 .given .1 in
+    let e = sym (c .before .before .before .before .«open» .ensures .same) ∙ ap toldOpened (c .before .before .read2 .given .1) in
     record { number = rw (e, c .number .ensures); cells = rw e }
 
 pub birchjack-envelope-spec : {M : Type 1} → statement M

@@ -1,7 +1,8 @@
 -- The bank that is accepted, or nothing. Assumes nothing.
 use borrow.Author.Needs.{needs}
-use mathlib.Core.Path.{sym, _∙_}
-use Rattle.bank.proofs.Laws.{new-valid}
+use mathlib.Core.Path.{sym, ap, _∙_}
+use Rattle.bank.specs.Banks.{toldBank}
+use Rattle.error.proofs.Told.{refusal-number}
 use Rattle.mixer.specs.Mixers.{banked}
 use Rattle.mixer.proofs.Laws.{valid-holding}
 use Rattle.mixer.proofs.Mixer.set_bank.Statement.{statement}
@@ -11,17 +12,21 @@ returns : tie.Need-returns
 unfolding banked
 returns c =
     let s = c .before .before .before in
-    record { same = rw (sym (s .new .ensures) ∙ c .before .e .given .1); valid = s .before .pre }
+    record {
+      same = rw (sym (s .new .ensures .same) ∙ ap toldBank (c .before .e .given .1), refusal-number (c .before .e .given .0 .0));
+      valid = s .before .pre;
+    }
 
 returns-2 : tie.Need-returns-2
 unfolding banked
 returns-2 c =
-    let b = c .before .before .before .before in
+    let r = c .before .before in
+    let b = r .before .before .before in
     let s = b .before .before in
-    let e = sym (s .new .ensures) ∙ b .b .given .1 in
+    let k = rw (b .b .given .1) at (s .new .ensures .valid) in
     record {
-      same = rw (e, c .before .silent .ensures);
-      valid = rw (c .before .silent .ensures) (valid-holding _ (s .before .pre) (new-valid _ _ _ e));
+      same = rw (sym (s .new .ensures .same) ∙ ap toldBank (b .b .given .1), c .before .silent .ensures, r .sample-rate-hz .ensures);
+      valid = rw (c .before .silent .ensures, r .sample-rate-hz .ensures) (valid-holding _ (s .before .pre) k);
     }
 
 pub set-bank-spec : {M : Type 1} → statement M
@@ -31,6 +36,7 @@ set-bank-spec =
     (λ c κs. search needs)
     (λ c. search needs)
     (λ c. search needs)
+    (λ c κs. search needs)
     (λ c κs. search needs)
     returns
     returns-2)

@@ -10,7 +10,7 @@ use mir.Val.{SFits, toZ, ofZ}
 use mir.ValLaws.{toZ-ofZ}
 use Rattle.laws.proofs.Signed.{signed, mag≤abs, mag-fits, abs-fits}
 use Rattle.laws.proofs.Made.{made}
-use Rattle.output.specs.Shapers.{level, shaped2ndOrder, ValidShaped}
+use Rattle.output.specs.Shapers.{quantized, shaped2ndOrder, ValidShaped}
 use Rattle.output.proofs.Laws.{Scaled, scaled-fits, level-size, levels-size, valid-shaped}
 use Rattle.output.proofs.SigmaDelta2ndOrder.shape.Statement.{statement}
 use Rattle.output.proofs.SigmaDelta2ndOrder.shape.Tie as tie
@@ -25,13 +25,13 @@ abbrev sum1 : tie.Start → ℤ
 sum1 c = c .args .self .e1 +ℤ c .args .pcm *ℤ pos 256
 
 abbrev err1 : tie.Start → ℤ
-err1 c = sum1 c -ℤ level (sum1 c)
+err1 c = sum1 c -ℤ quantized (sum1 c)
 
 abbrev sum2 : tie.Start → ℤ
 sum2 c = c .args .self .e2 +ℤ err1 c
 
 abbrev err2 : tie.Start → ℤ
-err2 c = sum2 c -ℤ level (sum2 c)
+err2 c = sum2 c -ℤ quantized (sum2 c)
 
 fitC : (c : tie.Start) → Known (c .args .self .e1) (c .args .self .e2) (c .args .pcm)
 fitC c =
@@ -56,11 +56,11 @@ less2 c = validC c .second
 sum1C : (c : tie.Start) → toZ w32 (ofZ w32 (c .args .self .e1)) +ℤ toZ w32 (ofZ w32 (toZ w32 (ofZ w32 (toZ w8 (ofZ w8 (c .args .pcm)))) *ℤ pos 256)) ≡ sum1 c
 sum1C c = let f = fitC c in search signed
 
-y1C : (c : tie.After-stage) → c .stage .result .y ≡ level (sum1 (c .before .before))
-y1C c = c .stage .ensures .0 ∙ ap level (sum1C (c .before .before))
+y1C : (c : tie.After-stage) → c .stage .result .y ≡ quantized (sum1 (c .before .before))
+y1C c = c .stage .ensures .0 ∙ ap quantized (sum1C (c .before .before))
 
 e1C : (c : tie.After-stage) → c .stage .result .e ≡ err1 (c .before .before)
-e1C c = c .stage .ensures .1 ∙ ap (λ (z : ℤ). z -ℤ level z) (sum1C (c .before .before))
+e1C c = c .stage .ensures .1 ∙ ap (λ (z : ℤ). z -ℤ quantized z) (sum1C (c .before .before))
 
 fit1 : (c : tie.After-stage) → SFits w32 (c .stage .result .e)
 fit1 c = rw (e1C c) (abs-fits 32767 (less1 (c .before .before)) tt)
@@ -69,11 +69,11 @@ fit1 c = rw (e1C c) (abs-fits 32767 (less1 (c .before .before)) tt)
 sum2C : (c : tie.After-stage) → toZ w32 (ofZ w32 (c .before .before .args .self .e2)) +ℤ toZ w32 (ofZ w32 (c .stage .result .e)) ≡ sum2 (c .before .before)
 sum2C c = rw (toZ-ofZ w32 _ (fitC (c .before .before) .second), toZ-ofZ w32 _ (fit1 c), e1C c)
 
-y2C : (c : tie.After-stage2) → c .stage2 .result .y ≡ level (sum2 (c .before .before .before .before .before))
-y2C c = c .stage2 .ensures .0 ∙ ap level (sum2C (c .before .before .before))
+y2C : (c : tie.After-stage2) → c .stage2 .result .y ≡ quantized (sum2 (c .before .before .before .before .before))
+y2C c = c .stage2 .ensures .0 ∙ ap quantized (sum2C (c .before .before .before))
 
 e2C : (c : tie.After-stage2) → c .stage2 .result .e ≡ err2 (c .before .before .before .before .before)
-e2C c = c .stage2 .ensures .1 ∙ ap (λ (z : ℤ). z -ℤ level z) (sum2C (c .before .before .before))
+e2C c = c .stage2 .ensures .1 ∙ ap (λ (z : ℤ). z -ℤ quantized z) (sum2C (c .before .before .before))
 
 fit2 : (c : tie.After-stage2) → SFits w32 (c .stage2 .result .e)
 fit2 c = rw (e2C c) (abs-fits 32767 (less2 (c .before .before .before .before .before)) tt)
@@ -89,14 +89,14 @@ stage-requires-2 c κs =
     (rw (toZ-ofZ w32 _ (fitC s .second)) (s .pre .second), rw (toZ-ofZ w32 _ (fit1 (c .before .before)), e1C (c .before .before)) (le-trans (mag≤abs (err1 s)) (less1 s)))
 
 -- the levels read back, and their sum
-level1 : (c : tie.After-stage) → toZ w32 (ofZ w32 (c .stage .result .y)) ≡ level (sum1 (c .before .before))
+level1 : (c : tie.After-stage) → toZ w32 (ofZ w32 (c .stage .result .y)) ≡ quantized (sum1 (c .before .before))
 level1 c = rw (y1C c) (toZ-ofZ w32 _ (mag-fits 32767 (level-size (sum1 (c .before .before))) tt))
 
-level2 : (c : tie.After-stage2) → toZ w32 (ofZ w32 (c .stage2 .result .y)) ≡ level (sum2 (c .before .before .before .before .before))
+level2 : (c : tie.After-stage2) → toZ w32 (ofZ w32 (c .stage2 .result .y)) ≡ quantized (sum2 (c .before .before .before .before .before))
 level2 c = rw (y2C c) (toZ-ofZ w32 _ (mag-fits 32767 (level-size (sum2 (c .before .before .before .before .before))) tt))
 
 abbrev both : tie.Start → ℤ
-both c = level (sum1 c) +ℤ level (sum2 c)
+both c = quantized (sum1 c) +ℤ quantized (sum2 c)
 
 few : (c : tie.Start) → mag (both c) ≤ 65535
 few c = levels-size (sum1 c) (sum2 c)

@@ -1,9 +1,11 @@
 -- N, then the entry that is found, then its start with voice 0 released. Assumes nothing.
 use Prim.Native.Nat.{_≤_}
-use mathlib.Core.Path.{_≡_, sym, _∙_}
+use mathlib.Core.Path.{_≡_, sym, ap, _∙_}
 use native.Mathlib.Omega.{arith}
 use borrow.Author.Needs.{needs}
 use borrow.Author.Tests.{lt-ltb, le-ltb}
+use Rattle.bank.specs.Entries.{toldEntry}
+use Rattle.error.proofs.Told.{refusal-number}
 use Rattle.play.specs.Fades.{faded}
 use Rattle.play.proofs.Laws.{released-count}
 use Rattle.play.proofs.fades.crossfade_to.Statement.{statement}
@@ -30,7 +32,7 @@ unfolding faded
 returns-2 c =
     let f = c .before .before .before in
     record {
-      same = rw (le-ltb _ _ (f .before .if1 .left), sym (f .find-by-id .ensures) ∙ c .before .e .given .1);
+      same = rw (le-ltb _ _ (f .before .if1 .left), sym (f .find-by-id .ensures) ∙ ap toldEntry (c .before .e .given .1), refusal-number (c .before .e .given .0 .0));
       valid = f .before .before .before .before .pre;
     }
 
@@ -44,7 +46,7 @@ returns-3 c =
       same =
           rw (
             le-ltb _ _ (f .before .if1 .left),
-            sym (f .find-by-id .ensures) ∙ g .before .before .entry .given .1,
+            sym (f .find-by-id .ensures) ∙ ap toldEntry (g .before .before .entry .given .1),
             r .same,
             g .first-released .ensures .same,
             c .before .start-entry .ensures .same,

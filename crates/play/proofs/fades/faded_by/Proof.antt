@@ -1,6 +1,7 @@
 -- The start that was given, and a step that moves. Assumes nothing.
 use Prim.Native.Nat.{_≤_}
 use borrow.Author.Needs.{needs}
+use Rattle.error.proofs.Told.{refusal-number}
 use Rattle.config.proofs.Laws.{step-least}
 use Rattle.play.specs.Fades.{fadedBy}
 use Rattle.play.proofs.fades.faded_by.Statement.{statement}
@@ -16,7 +17,7 @@ returns : tie.Need-returns
 unfolding fadedBy
 returns c =
     let s = c .before .before .before .before .before in
-    record { same = rw (c .before .started .given .1); valid = s .pre .0 }
+    record { same = rw (c .before .started .given .1, refusal-number (c .before .started .given .0 .0)); valid = s .pre .0 }
 
 returns-2 : tie.Need-returns-2
 unfolding fadedBy

@@ -6,13 +6,20 @@ use mathlib.Core.Path.{_≡_, ap}
 use lib.ListN.{length}
 use Rattle.laws.proofs.Made.{made}
 use Rattle.tone.specs.Duration.{forever}
-use Rattle.tone.proofs.Sounding.{block}
+use Rattle.tone.proofs.Sounding.{block, given-most}
 use Rattle.polyblep.proofs.Runs.{blepAt, blep-counted, valid-after}
 use Rattle.polyblep.proofs.PolyBlepVoice.fill_active.Statement.{statement}
 use Rattle.polyblep.proofs.PolyBlepVoice.fill_active.Tie as tie
 
 left : (s : tie.Start) → s .args .self .«samples_left» ≤ forever
 left s = omega arith
+
+fill-wave-requires : tie.Need-fill-wave-requires
+fill-wave-requires c κs =
+    let g = c .before .before in
+    let s = g .before .before .before .before in
+    let few : g .given-of .result ≤ 256 = omega (arith, g .given-of .ensures, given-most (s .args .self .«samples_left») (s .args .len), s .pre .0) in
+    search needs
 
 returns : tie.Need-returns
 returns c =
@@ -28,4 +35,4 @@ returns c =
 
 pub fill-active-spec : {M : Type 1} → statement M
 fill-active-spec =
-    tie.close (tie.spec (λ c κs. search needs) (λ c κs. search needs) (λ c κs. search needs) (λ c κs. search needs) returns)
+    tie.close (tie.spec (λ c κs. search needs) (λ c κs. search needs) fill-wave-requires (λ c κs. search needs) returns)

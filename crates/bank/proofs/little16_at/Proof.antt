@@ -1,10 +1,10 @@
--- `bank::wide_at` meets its contract: two bytes below 256 make a number below 65,536.
+-- `bank::little16_at` meets its contract: two bytes below 256 make a number below 65,536.
 use Prim.Native.Nat.{_+_, _<_}
 use borrow.Author.Needs.{needs}
 use native.Mathlib.Omega.{arith}
 use Rattle.bank.specs.Entries.{byteAt}
-use Rattle.bank.proofs.wide_at.Statement.{statement}
-use Rattle.bank.proofs.wide_at.Tie as tie
+use Rattle.bank.proofs.little16_at.Statement.{statement}
+use Rattle.bank.proofs.little16_at.Tie as tie
 
 -- the two bytes
 record Bytes (c : tie.After-shared-slice-known2) : Type 0 where
@@ -17,8 +17,8 @@ bytes c =
     let k = c .before .before .args .k in
     record { low = omega (arith, byte k); high = omega (arith, byte (k + 1)) }
 
-pub wide-at-spec : {M : Type 1} → statement M
-wide-at-spec =
+pub little16-at-spec : {M : Type 1} → statement M
+little16-at-spec =
     tie.close
     (tie.spec
     (λ c. search needs)

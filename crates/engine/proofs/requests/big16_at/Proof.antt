@@ -3,8 +3,8 @@ use Prim.Native.Nat.{_+_, _<_}
 use borrow.Author.Needs.{needs}
 use native.Mathlib.Omega.{arith}
 use lib.ListN.{getD}
-use Rattle.engine.proofs.requests.wide_at.Statement.{statement}
-use Rattle.engine.proofs.requests.wide_at.Tie as tie
+use Rattle.engine.proofs.requests.big16_at.Statement.{statement}
+use Rattle.engine.proofs.requests.big16_at.Tie as tie
 
 record Bytes (c : tie.After-shared-slice-known2) : Type 0 where
   high : getD (c .before .before .args .l .now) (c .before .before .args .k) 0 < 256
@@ -16,8 +16,8 @@ bytes c =
     let k = c .before .before .args .k in
     record { high = omega (arith, byte k); low = omega (arith, byte (k + 1)) }
 
-pub wide-at-spec : {M : Type 1} → statement M
-wide-at-spec =
+pub big16-at-spec : {M : Type 1} → statement M
+big16-at-spec =
     tie.close
     (tie.spec
     (λ c. search needs)

@@ -7,6 +7,7 @@ use lib.Dec.{ltb}
 use lib.ListN.{length, getD, take, drop, set, replicate}
 use Rattle.bank.specs.Banks.{ValidBank, bankOf}
 use Rattle.bank.specs.declared.SoundBank.{SoundBank}
+use Rattle.bank.specs.declared.BankSet.{BankSet}
 use Rattle.bank.specs.declared.BankSet.the-variants as B
 use Rattle.config.specs.Config as C
 use Rattle.config.specs.declared.AudioConfig.{AudioConfig}
@@ -28,6 +29,11 @@ use Rattle.mixer.specs.declared.VoiceRead.the-variants as R
 use Rattle.mixer.specs.declared.PanRead.{PanRead}
 use Rattle.mixer.specs.declared.PanRead.the-variants as Q
 
+-- "Setting a bank makes its rate the engine's"
+abbrev pub AtRate : ℕ → BankSet → Type 0
+AtRate rate B.None = Unit {0}
+AtRate rate (B.Bank b) = b .«sample_rate_hz» ≡ rate
+
 -- what every state that a call takes or gives has; the places from n on, which no call reads, stay silent
 pub record Valid (m : Mixer) : Type 0 where
   pub few : m .n ≤ 16
@@ -35,6 +41,7 @@ pub record Valid (m : Mixer) : Type 0 where
   pub each : All S.Valid (m .voices)
   pub rest : drop (m .n) (m .voices) ≡ drop (m .n) (replicate 16 (S.silentVoice (m .config .«sample_rate_hz»)))
   pub bank : ValidBank (m .bank)
+  pub tuned : AtRate (m .config .«sample_rate_hz») (m .bank)
   pub rate : m .config .«sample_rate_hz» ≤ 65537
   pub period : 2 ≤ m .config .«pwm_period»
   pub mapper : ValidMapper (m .mapper)

@@ -59,6 +59,7 @@ valid-begun {m} v step h k l g =
       each = all-set S.Valid (m .voices) 1 v (h .each) g;
       rest = rw (drop-set-lt (m .n) (m .voices) 1 v (omega arith), h .rest);
       bank = h .bank;
+      tuned = h .tuned;
       rate = h .rate;
       period = h .period;
       mapper = h .mapper;

@@ -28,6 +28,7 @@ use Rattle.envelope.specs.Adsrs as A
 use Rattle.frame.specs.Fades.{voiceAt, fadeEnded, fadeAt, nextT, advanced}
 use Rattle.frame.specs.Frames.{enveloped, sampled, leveled, averaged, crossed, sampleOf, monoMix, monoFrame, leftOf, rightOf, sideTotal, stereoFrame}
 use Rattle.frame.specs.Runs.{monoStep, stereoStep}
+use Rattle.frame.proofs.Voices.{getD-mapFirst}
 use Rattle.voice.specs.Blocks.{voiceStep, voiceAnswer, voiceRun}
 use Rattle.block.specs.Parts.{Slow, pace}
 use Rattle.block.proofs.Sums.{sumOver}
@@ -56,12 +57,6 @@ module _ {A : Type 0} where
   mapFirst-all f e zero l = refl
   mapFirst-all f e (suc n) [] = refl
   mapFirst-all f e (suc n) (x ∷ l) = rw (e x, mapFirst-all f e n l)
-
-  getD-mapFirst : (f : A → A) (n i : ℕ) (l : List A) (d : A) → i < n → i < length l → getD (mapFirst f n l) i d ≡ f (getD l i d)
-  getD-mapFirst f zero i l d h k = absurd (omega arith)
-  getD-mapFirst f (suc n) i [] d h k = absurd (omega arith)
-  getD-mapFirst f (suc n) zero (x ∷ l) d h k = refl
-  getD-mapFirst f (suc n) (suc i) (x ∷ l) d h k = getD-mapFirst f n i l d (omega arith) (omega arith)
 
 -- ---- how the fade moves
 

@@ -1,11 +1,11 @@
--- The records 11, 13 to 1D, 2B, 2C and 30: the length and the fields that each allows, the call that it makes, and the reply. Fields count
+-- The records 11, 13 to 1D, 2B, 2C, 30 and 62 to 69: the length and the fields that each allows, the call that it makes, and the reply. Fields count
 -- from byte 1 on. Assumes nothing.
 use Prim.Native.Nat.{ℕ, _+_, _*_}
 use mathlib.Core.Bool.{Bool, false, cond, _&&_}
 use mathlib.Core.List.{List}
 use lib.Dec.{leb, eqb}
 use lib.ListN.{length}
-use mir.Syntax.{w8}
+use mir.Syntax.{w8, w16}
 use mir.Val.{ofZ}
 use Rattle.error.specs.Told.{Told, value, refused, numberIn}
 use Rattle.allocate.specs.Allocation.{allocated}
@@ -13,7 +13,9 @@ use Rattle.bank.specs.Search.{foundGiven}
 use Rattle.bank.specs.declared.EffectEntry.{EffectEntry}
 use Rattle.mixer.specs.Mixers as M
 use Rattle.mixer.specs.declared.Outcome.{Outcome}
-use Rattle.frame.specs.Frames.{stereoFrame, dutyFrame}
+use Rattle.mixer.specs.declared.PanRead.{PanRead}
+use Rattle.mixer.specs.declared.PanRead.the-variants as Q
+use Rattle.frame.specs.Frames.{monoFrame, stereoFrame, dutyFrame}
 use Rattle.play.specs.Plays.{played, toldPlay, toned, polyBleped}
 use Rattle.play.specs.Fades.{faded}
 use Rattle.play.specs.declared.PlayOutcome.{PlayOutcome}
@@ -21,9 +23,11 @@ use Rattle.engine.specs.Engines.{ValidEngine, boxed, changedBox, playedBox, req
 use Rattle.engine.specs.declared.AudioEngine.{AudioEngine}
 use Rattle.engine.specs.declared.EngineChanged.{EngineChanged}
 use Rattle.engine.specs.declared.EnginePlayed.{EnginePlayed}
-use Rattle.engine.specs.Ticks.{sidesBox, dutyBox}
+use Rattle.engine.specs.Ticks.{sampleBox, sidesBox, dutyBox, wideSides}
 use Rattle.engine.specs.declared.ticks.EngineDuty.{EngineDuty}
+use Rattle.engine.specs.declared.ticks.EngineSample.{EngineSample}
 use Rattle.engine.specs.declared.ticks.EngineSides.{EngineSides}
+use Rattle.engine.specs.declared.ticks.EngineWideSides.{EngineWideSides}
 use Rattle.hex.specs.Hex.{byteAt, wideAt, longAt}
 use Rattle.fields.specs.Read.{specAt, toneWaveform, polyBlepWaveform}
 use Rattle.fields.specs.States.{flagNumber}
@@ -56,7 +60,15 @@ allowed code l =
     (cond (eqb code 0x1D) (sizedAs 0 l)
     (cond (eqb code 0x2B) (sizedAs 0 l)
     (cond (eqb code 0x2C) (sizedAs 0 l)
-    (cond (eqb code 0x30) (sizedAs 0 l) false))))))))))))))
+    (cond (eqb code 0x30) (sizedAs 0 l)
+    (cond (eqb code 0x62) (sizedAs 9 l)
+    (cond (eqb code 0x63) (sizedAs 1 l)
+    (cond (eqb code 0x64) (sizedAs 0 l)
+    (cond (eqb code 0x65) (sizedAs 0 l)
+    (cond (eqb code 0x66) (sizedAs 0 l)
+    (cond (eqb code 0x67) (sizedAs 0 l)
+    (cond (eqb code 0x68) (sizedAs 0 l)
+    (cond (eqb code 0x69) (sizedAs 1 l) false))))))))))))))))))))))
 
 -- "number: two digits, 00 where accepted, else the refusal number"
 abbrev pub outcomeReply : Outcome → Reply
@@ -145,6 +157,44 @@ widthCall f = asked (R.Wide (f .duty)) (f .engine)
 unfoldable pub dutyCall : AudioEngine → Called
 dutyCall e = widthCall (dutyBox (dutyFrame (e .state)))
 
+-- 62, play: "id (2), E | number, voice", at the priority of a play request that names none
+unfoldable pub plainPlayCall : List ℕ → List ℕ → AudioEngine → Called
+plainPlayCall l bytes e = playedCall (playedBox (played (e .state) bytes (requestOf (wideAt l 1) (specAt l 3) 128)))
+
+-- 63, pan of a voice: "voice (1) | 01 and the pan, or 00 where there is no such voice"
+abbrev pub panReply : PanRead → Reply
+panReply (Q.Pan pan) = R.Two 1 pan
+panReply Q.None = R.Number 0
+
+unfoldable pub panReadCall : List ℕ → AudioEngine → Called
+panReadCall l e = asked (panReply (M.panRead (e .state) (byteAt l 1))) e
+
+-- 66, one PCM sample: "2 digits"
+abbrev pub pcmCall : EngineSample → Called
+pcmCall f = asked (R.Number (ofZ w8 (f .pcm))) (f .engine)
+
+unfoldable pub sampleCall : AudioEngine → Called
+sampleCall e = pcmCall (sampleBox (monoFrame (e .state)))
+
+-- 68, one stereo frame, i16: "left, right (4 digits each)"
+abbrev pub wideSidesCall : EngineWideSides → Called
+wideSidesCall f = asked (R.WideTwo (ofZ w16 (f .left)) (ofZ w16 (f .right))) (f .engine)
+
+unfoldable pub wideStereoCall : AudioEngine → Called
+wideStereoCall e = wideSidesCall (wideSides (sidesBox (stereoFrame (e .state))))
+
+-- the records from 62 on. 64, 65 and 69 print what the engine holds; 67 is one duty, as 2C is.
+unfoldable pub laterCall : ℕ → List ℕ → List ℕ → AudioEngine → Called
+laterCall code l bytes e =
+    cond (eqb code 0x62) (plainPlayCall l bytes e)
+    (cond (eqb code 0x63) (panReadCall l e)
+    (cond (eqb code 0x64) (asked R.Policy e)
+    (cond (eqb code 0x65) (asked R.Configuration e)
+    (cond (eqb code 0x66) (sampleCall e)
+    (cond (eqb code 0x67) (dutyCall e)
+    (cond (eqb code 0x68) (wideStereoCall e)
+    (cond (eqb code 0x69) (asked (R.Voice (byteAt l 1)) e) (asked R.Bad e))))))))
+
 -- by the code. 1B and 30 print what the engine holds.
 unfoldable pub callFor : ℕ → List ℕ → List ℕ → AudioEngine → Called
 callFor code l bytes e =
@@ -162,7 +212,7 @@ callFor code l bytes e =
     (cond (eqb code 0x1D) (audibleCall e)
     (cond (eqb code 0x2B) (stereoCall e)
     (cond (eqb code 0x2C) (dutyCall e)
-    (cond (eqb code 0x30) (asked R.Dump e) (asked R.Bad e)))))))))))))))
+    (cond (eqb code 0x30) (asked R.Dump e) (laterCall code l bytes e)))))))))))))))
 
 -- the bytes are those lent; a bad line asks nothing of the engine
 unfoldable pub called : List ℕ → List ℕ → AudioEngine → Called

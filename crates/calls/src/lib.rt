@@ -7,7 +7,7 @@ ghost use Rattle.hex.specs.Hex.{byteAt};
 ghost use Rattle.allocate.specs.Allocation.{toldPlace};
 ghost use Rattle.bank.specs.Entries.{toldEntry};
 ghost use Rattle.engine.specs.Engines.{ValidEngine};
-ghost use Rattle.calls.specs.Calls.{ValidCalled, sizedAs, allowed, outcomeReply, playReply, bankCall, playCall, fadeCall, toneCall, polyBlepCall, panCall, gainCall, stopCall, entryReply, searchCall, placeReply, allocateCall, audibleCall, stereoCall, dutyCall, callFor, called};
+ghost use Rattle.calls.specs.Calls.{ValidCalled, sizedAs, allowed, outcomeReply, playReply, bankCall, playCall, fadeCall, toneCall, polyBlepCall, panCall, gainCall, stopCall, entryReply, searchCall, placeReply, allocateCall, audibleCall, stereoCall, dutyCall, plainPlayCall, panReply, panReadCall, sampleCall, wideStereoCall, laterCall, callFor, called};
 use allocate::Allocated;
 use bank::EffectEntry;
 use bank::EntryRead;
@@ -19,21 +19,27 @@ use fields::tone_waveform;
 use fixed::as_u8;
 use hex::byte_at;
 use hex::long_at;
+use hex::unsigned16;
 use hex::wide_at;
 use mixer::Outcome;
+use mixer::PanRead;
 use play::PlayOutcome;
 
-// What is answered: that the line is bad, nothing, one number or two, a number of four digits, an entry, the part of the bank that was asked for,
-// the state.
+// What is answered: that the line is bad, nothing, one number or two, a number of four digits or two of them, an entry, the part of the bank
+// that was asked for, the state, the policy, the configuration, the voice at an index.
 pub enum Reply {
     Bad,
     Nothing,
     Number(u64),
     Two(u64, u64),
     Wide(u64),
+    WideTwo(u64, u64),
     Entry(EffectEntry),
     Payload,
     Dump,
+    Policy,
+    Configuration,
+    Voice(u8),
 }
 
 // The engine after the call.
@@ -70,6 +76,14 @@ fn is_allowed(code: u8, l: &[u8]) -> bool
         0x2b => n == 2,
         0x2c => n == 2,
         0x30 => n == 2,
+        0x62 => n == 20,
+        0x63 => n == 4,
+        0x64 => n == 2,
+        0x65 => n == 2,
+        0x66 => n == 2,
+        0x67 => n == 2,
+        0x68 => n == 2,
+        0x69 => n == 4,
         _ => false,
     }
 }
@@ -268,6 +282,108 @@ fn duty_call(e: AudioEngine) -> Called
     }
 }
 
+fn plain_play_call(l: &[u8], bytes: &[u8], e: AudioEngine) -> Called
+    requires { ⌜ ValidEngine e ⌝ }
+    ensures { λ r. ⌜ Made ValidCalled (plainPlayCall (now (l .entry)) (now (bytes .entry)) e) r ⌝ }
+{
+    let adsr = spec_at(l, 3);
+    let p = e.play(bytes, wide_at(l, 1), adsr);
+    let outcome = p.outcome;
+    let engine = p.engine;
+    Called {
+        reply: play_reply(outcome),
+        engine,
+    }
+}
+
+fn pan_reply(p: PanRead) -> Reply
+    ensures { λ r. ⌜ r ≡ panReply p ⌝ }
+{
+    match p {
+        PanRead::Pan(pan) => Reply::Two(1, pan as u64),
+        PanRead::None => Reply::Number(0),
+    }
+}
+
+fn pan_read_call(l: &[u8], e: AudioEngine) -> Called
+    requires { ⌜ ValidEngine e ⌝ }
+    ensures { λ r. ⌜ Made ValidCalled (panReadCall (now (l .entry)) e) r ⌝ }
+{
+    let p = e.voice_pan(byte_at(l, 1) as usize);
+    Called {
+        reply: pan_reply(p),
+        engine: e,
+    }
+}
+
+fn sample_call(e: AudioEngine) -> Called
+    requires { ⌜ ValidEngine e ⌝ }
+    ensures { λ r. ⌜ Made ValidCalled (sampleCall e) r ⌝ }
+{
+    let f = e.tick_pcm();
+    let engine = f.engine;
+    Called {
+        reply: Reply::Number(as_u8(f.pcm) as u64),
+        engine,
+    }
+}
+
+fn pwm_call(e: AudioEngine) -> Called
+    requires { ⌜ ValidEngine e ⌝ }
+    ensures { λ r. ⌜ Made ValidCalled (dutyCall e) r ⌝ }
+{
+    let f = e.tick_pwm();
+    let engine = f.engine;
+    Called {
+        reply: Reply::Wide(f.duty as u64),
+        engine,
+    }
+}
+
+fn wide_stereo_call(e: AudioEngine) -> Called
+    requires { ⌜ ValidEngine e ⌝ }
+    ensures { λ r. ⌜ Made ValidCalled (wideStereoCall e) r ⌝ }
+{
+    let f = e.tick_stereo_i16();
+    let engine = f.engine;
+    let left = unsigned16(f.left) as u64;
+    let right = unsigned16(f.right) as u64;
+    Called {
+        reply: Reply::WideTwo(left, right),
+        engine,
+    }
+}
+
+// The records from 62 on.
+fn later_call(code: u8, l: &[u8], bytes: &[u8], e: AudioEngine) -> Called
+    requires { ⌜ ValidEngine e ⌝ }
+    ensures { λ r. ⌜ Made ValidCalled (laterCall code (now (l .entry)) (now (bytes .entry)) e) r ⌝ }
+{
+    match code {
+        0x62 => plain_play_call(l, bytes, e),
+        0x63 => pan_read_call(l, e),
+        0x64 => Called {
+            reply: Reply::Policy,
+            engine: e,
+        },
+        0x65 => Called {
+            reply: Reply::Configuration,
+            engine: e,
+        },
+        0x66 => sample_call(e),
+        0x67 => pwm_call(e),
+        0x68 => wide_stereo_call(e),
+        0x69 => Called {
+            reply: Reply::Voice(byte_at(l, 1)),
+            engine: e,
+        },
+        _ => Called {
+            reply: Reply::Bad,
+            engine: e,
+        },
+    }
+}
+
 fn call_for(code: u8, l: &[u8], bytes: &[u8], e: AudioEngine) -> Called
     requires { ⌜ ValidEngine e ⌝ }
     ensures { λ r. ⌜ Made ValidCalled (callFor code (now (l .entry)) (now (bytes .entry)) e) r ⌝ }
@@ -294,10 +410,7 @@ fn call_for(code: u8, l: &[u8], bytes: &[u8], e: AudioEngine) -> Called
             reply: Reply::Dump,
             engine: e,
         },
-        _ => Called {
-            reply: Reply::Bad,
-            engine: e,
-        },
+        _ => later_call(code, l, bytes, e),
     }
 }
 

@@ -23,7 +23,7 @@ struct BankFields {
     rate: u64,
 }
 
-fn policy_number(p: VoiceStealingPolicy) -> u64
+pub fn policy_number(p: VoiceStealingPolicy) -> u64
     ensures { λ r. ⌜ r ≡ policyNumber p ⌝ }
 {
     match p {
@@ -32,7 +32,7 @@ fn policy_number(p: VoiceStealingPolicy) -> u64
     }
 }
 
-fn mode_number(m: DutyMode) -> u64
+pub fn mode_number(m: DutyMode) -> u64
     ensures { λ r. ⌜ r ≡ modeNumber m ⌝ }
 {
     match m {

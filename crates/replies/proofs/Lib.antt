@@ -1,3 +1,3 @@
 -- What the proofs here share.
---     Payload    a payload's length and text
+--     Payload    a payload's length and text; a voice that is read
 mod Payload

@@ -3,19 +3,25 @@ ghost use mathlib.Core.Path.{_≡_};
 ghost use Rattle.bank.specs.Banks.{toldPayload};
 ghost use Rattle.error.specs.Told.{numberIn};
 ghost use Rattle.engine.specs.Engines.{ValidEngine};
+ghost use Rattle.mixer.specs.Mixers.{voiceRead};
 ghost use Rattle.hex.specs.Hex.{Wrote};
-ghost use Rattle.replies.specs.Texts.{entryText, payloadText, twoText, replyText};
+ghost use Rattle.replies.specs.Texts.{entryText, payloadText, twoText, wideTwoText, configText, voiceText, replyText};
 use bank::EffectEntry;
 use bank::PayloadRead;
 use calls::Reply;
 use cells::put_u8s;
+use config::AudioConfig;
+use dump::mode_number;
+use dump::policy_number;
 use dump::put_dump;
 use engine::AudioEngine;
+use fields::put_voice;
 use hex::end_line;
 use hex::long_at;
 use hex::put;
 use hex::put_line;
 use hex::wide_at;
+use mixer::VoiceRead;
 
 fn put_two(out: &mut [u8; 262144], a: u64, b: u64) -> usize
     ensures { λ r. ⌜ Wrote (now (out .entry)) 0 (twoText a b) (now (out .exit)) r ⌝ }
@@ -23,6 +29,39 @@ fn put_two(out: &mut [u8; 262144], a: u64, b: u64) -> usize
     let n1 = put(out, 0, a, 2);
     let n2 = put(out, n1, b, 2);
     end_line(out, n2)
+}
+
+fn put_wide_two(out: &mut [u8; 262144], a: u64, b: u64) -> usize
+    ensures { λ r. ⌜ Wrote (now (out .entry)) 0 (wideTwoText a b) (now (out .exit)) r ⌝ }
+{
+    let n1 = put(out, 0, a, 4);
+    let n2 = put(out, n1, b, 4);
+    end_line(out, n2)
+}
+
+fn put_config(out: &mut [u8; 262144], c: AudioConfig) -> usize
+    ensures { λ r. ⌜ Wrote (now (out .entry)) 0 (configText c) (now (out .exit)) r ⌝ }
+{
+    let mode = c.duty_mode;
+    let n1 = put(out, 0, c.sample_rate_hz as u64, 8);
+    let n2 = put(out, n1, c.pwm_period as u64, 4);
+    let n3 = put(out, n2, mode_number(mode), 2);
+    let n4 = put(out, n3, c.master_gain_q8 as u64, 2);
+    end_line(out, n4)
+}
+
+fn put_voice_at(out: &mut [u8; 262144], e: AudioEngine, i: u8) -> usize
+    requires { ⌜ ValidEngine e ⌝ }
+    ensures { λ r. ⌜ Wrote (now (out .entry)) 0 (voiceText (voiceRead (e .state) i)) (now (out .exit)) r ⌝ }
+{
+    let read = e.voice(i as usize);
+    match read {
+        VoiceRead::Voice(v) => {
+            let end = put_voice(out, 0, v);
+            end_line(out, end)
+        }
+        VoiceRead::None => end_line(out, 0),
+    }
 }
 
 fn put_entry(out: &mut [u8; 262144], e: EffectEntry) -> usize
@@ -77,11 +116,21 @@ pub fn put_reply(
         Reply::Number(n) => put_line(out, n, 2),
         Reply::Two(a, b) => put_two(out, a, b),
         Reply::Wide(n) => put_line(out, n, 4),
+        Reply::WideTwo(a, b) => put_wide_two(out, a, b),
         Reply::Entry(entry) => put_entry(out, entry),
         Reply::Payload => put_payload(l, bytes, e, out),
         Reply::Dump => {
             let m = e.state();
             put_dump(out, m)
         }
+        Reply::Policy => {
+            let policy = e.stealing_policy();
+            put_line(out, policy_number(policy), 2)
+        }
+        Reply::Configuration => {
+            let config = e.config();
+            put_config(out, config)
+        }
+        Reply::Voice(i) => put_voice_at(out, e, i),
     }
 }

@@ -99,9 +99,13 @@ goesOn R.Nothing = true
 goesOn (R.Number n) = true
 goesOn (R.Two a b) = true
 goesOn (R.Wide n) = true
+goesOn (R.WideTwo a b) = true
 goesOn (R.Entry e) = true
 goesOn R.Payload = true
 goesOn R.Dump = true
+goesOn R.Policy = true
+goesOn R.Configuration = true
+goesOn (R.Voice i) = true
 
 abbrev pub calledAnswer : Session → List ℕ → List ℕ → Called → Answer
 calledAnswer s bytes l c =
@@ -111,7 +115,7 @@ calledAnswer s bytes l c =
       session = record { «is_open» = s .«is_open»; lent = s .lent; engine = c .engine };
     }
 
--- 11, 13 to 1D, 2B, 2C, 30: "any record but 10 and the 4x ones before an engine is open" is bad
+-- 11, 13 to 1D, 2B, 2C, 30, 62 to 69: "any record but 10 and the 4x ones before an engine is open" is bad
 unfoldable pub callAnswer : Session → List ℕ → List ℕ → Answer
 callAnswer s bytes l = cond (s .«is_open») (calledAnswer s bytes l (called l bytes (s .engine))) (badLine s)
 
@@ -135,9 +139,9 @@ fillAnswer s l =
 unfoldable pub aloneAnswer : Session → List ℕ → Answer
 aloneAnswer s l = record { text = A.replyText l; more = A.goesOn (replyOf l); session = s }
 
--- the codes 11, 13 to 1D, 2B, 2C and 30
+-- the codes 11, 13 to 1D, 2B, 2C, 30 and 62 to 69
 abbrev pub isCall : ℕ → Bool
-isCall code = eqb code 0x11 || (leb 0x13 code && leb code 0x1D) || eqb code 0x2B || eqb code 0x2C || eqb code 0x30
+isCall code = eqb code 0x11 || (leb 0x13 code && leb code 0x1D) || eqb code 0x2B || eqb code 0x2C || eqb code 0x30 || (leb 0x62 code && leb code 0x69)
 
 -- the codes 20 to 2A
 abbrev pub isFill : ℕ → Bool

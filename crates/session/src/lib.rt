@@ -201,9 +201,13 @@ fn goes_on(r: Reply) -> bool
         Reply::Number(_) => true,
         Reply::Two(_, _) => true,
         Reply::Wide(_) => true,
+        Reply::WideTwo(_, _) => true,
         Reply::Entry(_) => true,
         Reply::Payload => true,
         Reply::Dump => true,
+        Reply::Policy => true,
+        Reply::Configuration => true,
+        Reply::Voice(_) => true,
     }
 }
 
@@ -281,6 +285,7 @@ fn is_call(code: u8) -> bool
         0x2b => true,
         0x2c => true,
         0x30 => true,
+        0x62..=0x69 => true,
         _ => false,
     }
 }

@@ -15,17 +15,17 @@ use Rattle.calls.specs.Calls.{sizedAs}
 use Rattle.session.specs.Sessions.{fillAllowed, isFill, isLine}
 use Rattle.session.specs.declared.Session.{Session}
 
--- 29, 2A and 2B make stereo frames, every other record mono ones
+-- 29, 2A, 2B and 68 make stereo frames, every other record mono ones
 abbrev pub isStereo : ℕ → Bool
-isStereo code = leb 0x29 code && leb code 0x2B
+isStereo code = eqb code 0x68 || (leb 0x29 code && leb code 0x2B)
 
 -- 20 to 26 make a frame for each cell, 27 to 2A one for each pair: "an odd last stereo cell is not written"
 unfoldable pub filledFrames : ℕ → List ℕ → ℕ
 filledFrames code l = cond (fillAllowed l) (cond (leb code 0x26) (wideAt l 1) (wideAt l 1 / 2)) 0
 
--- 2B and 2C, which have no fields, make one frame
+-- 2B, 2C, and 66 to 68, which have no fields, make one frame
 abbrev pub isOneFrame : ℕ → List ℕ → Bool
-isOneFrame code l = sizedAs 0 l && (eqb code 0x2B || eqb code 0x2C)
+isOneFrame code l = sizedAs 0 l && (eqb code 0x2B || eqb code 0x2C || eqb code 0x66 || eqb code 0x67 || eqb code 0x68)
 
 -- every other record makes none
 unfoldable pub framesFor : ℕ → List ℕ → ℕ

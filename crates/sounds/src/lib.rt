@@ -15,6 +15,9 @@ use session::Session;
 fn is_stereo(code: u8) -> bool
     ensures { λ r. ⌜ r ≡ isStereo code ⌝ }
 {
+    if code == 0x68 {
+        return true;
+    }
     0x29 <= code && code <= 0x2b
 }
 
@@ -34,7 +37,14 @@ fn is_one_frame(code: u8, l: &[u8]) -> bool
     if l.len() != 2 {
         return false;
     }
-    code == 0x2b || code == 0x2c
+    match code {
+        0x2b => true,
+        0x2c => true,
+        0x66 => true,
+        0x67 => true,
+        0x68 => true,
+        _ => false,
+    }
 }
 
 fn frames_for(code: u8, l: &[u8]) -> usize

@@ -1,13 +1,18 @@
 -- `calls::tone_call` meets its contract: what the engine promises, with the fields of the line.
 use borrow.Author.Needs.{needs}
-use Rattle.calls.specs.Calls.{toneCall}
+use mathlib.Core.Path.{ap}
+use Rattle.calls.specs.Calls.{silentCall, toneCall}
 use Rattle.calls.proofs.tone_call.Statement.{statement}
 use Rattle.calls.proofs.tone_call.Tie as tie
 
 returns : tie.Need-returns
 unfolding toneCall
 returns c =
-    record { same = cc; valid = c .play-tone .ensures .valid }
+    let w = c .before in
+    let h = w .before in
+    let f = h .before in
+    let m = rw (w .wide-at .ensures, h .long-at .ensures, f .tone-waveform .ensures, f .before .byte-at .ensures) at (c .play-tone .ensures) in
+    record { same = ap silentCall (m .same); valid = m .valid }
 
 pub tone-call-spec : {M : Type 1} → statement M
 tone-call-spec =

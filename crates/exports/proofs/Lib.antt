@@ -1,5 +1,7 @@
 -- How the calls for other languages are proved.
 --     Cells    a run's values, one to a cell
 --     Laws     what callers cite: a payload that is there is within the bytes
+--     Ready    what a call answers, by what readying its engine gave
 mod Cells
 pub mod Laws
+mod Ready

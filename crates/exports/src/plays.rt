@@ -1,163 +1,266 @@
-// An engine that lives for one call: it is opened, plays requests, and is asked for frames.
+// An engine that lives for one call: it is opened, gets a bank, plays requests, and is asked for frames.
 ghost use mathlib.Core.Path.{_≡_};
 ghost use Rattle.laws.specs.Made.{Made};
-ghost use Rattle.engine.specs.Engines.{ValidEngine};
-ghost use Rattle.mixer.specs.Mixers.{audibleCount};
+ghost use Rattle.engine.specs.Engines.{ValidEngine, ValidEngineChanged};
 ghost use Rattle.frame.specs.Runs.{monoStep, dutyStep, duties, stereoStep};
 ghost use Rattle.buffers.specs.Buffers.{toI16, once, sides};
-ghost use Rattle.exports.specs.Plays.{readied, withPolyBlep, spread, Cells, Pairs};
+ghost use Rattle.output.specs.declared.DutyMode.the-variants as M;
+ghost use Rattle.exports.specs.Told.{Answers};
+ghost use Rattle.exports.specs.Plays.{policyOf, modeOf, settings, readied, toldReady, withPolyBlep, sounded, pannedFrom, cellsTold, pairsTold, playTold};
 use config::AudioConfig;
+use config::DEFAULT_PWM_PERIOD;
 use engine::AudioEngine;
+use engine::EngineChanged;
+use mixer::Outcome;
 use mixer::VoiceStealingPolicy;
-use polyblep::PolyBlepWaveform;
+use output::DutyMode;
 
-// An engine of n voices after the requests, ten bytes each.
+fn policy_of(free_only: bool) -> VoiceStealingPolicy
+    ensures { λ r. ⌜ r ≡ policyOf «free_only» ⌝ }
+{
+    if free_only {
+        VoiceStealingPolicy::FreeChannelOnly
+    } else {
+        VoiceStealingPolicy::LowestPriorityOldest
+    }
+}
+
+fn mode_of(shaped: bool, second_order: bool) -> DutyMode
+    ensures { λ r. ⌜ r ≡ modeOf shaped «second_order» ⌝ }
+{
+    if shaped {
+        if second_order {
+            DutyMode::SigmaDelta2ndOrder
+        } else {
+            DutyMode::SigmaDelta
+        }
+    } else {
+        DutyMode::Linear
+    }
+}
+
+fn settings(sample_rate_hz: u32, period: u16, mode: DutyMode, gain: u8) -> AudioConfig
+    ensures { λ r. ⌜ r ≡ settings «sample_rate_hz» period mode gain ⌝ }
+{
+    let config = AudioConfig::new(sample_rate_hz, period, mode);
+    config.master_gain_q8(gain)
+}
+
+// An engine with its bank, or what turned it down.
 fn ready(
     n: usize,
-    mode: u8,
+    free_only: bool,
+    config: AudioConfig,
     bytes: &[u8],
-    sample_rate_hz: u32,
     effect_count: u16,
-    requests: &[u8],
-) -> AudioEngine
-    ensures { λ r. ⌜ Made ValidEngine (readied n mode (now (bytes .entry)) «sample_rate_hz» «effect_count» (now (requests .entry))) r ⌝ }
+) -> EngineChanged
+    ensures { λ r. ⌜ Made ValidEngineChanged (readied n (policyOf «free_only») config (now (bytes .entry)) «effect_count») r ⌝ }
 {
-    let duty_mode = fields::mode_of(mode);
-    let config = AudioConfig::new(sample_rate_hz, 1000, duty_mode);
-    let opened = AudioEngine::open(n, config, VoiceStealingPolicy::LowestPriorityOldest);
-    let silent = opened.engine;
-    let banked = silent.set_bank(bytes, sample_rate_hz, effect_count);
-    let holding = banked.engine;
-    holding.play_all(bytes, requests)
+    let policy = policy_of(free_only);
+    let opened = AudioEngine::open(n, config, policy);
+    let outcome = opened.outcome;
+    match outcome {
+        Outcome::Refused(_) => opened,
+        Outcome::Done => {
+            let silent = opened.engine;
+            silent.set_bank(bytes, config.sample_rate_hz, effect_count)
+        }
+    }
 }
 
-// PolyBLEP on voice 0, for a minute, where a frequency is given.
-fn with_polyblep(e: AudioEngine, freq_hz: u32) -> AudioEngine
+fn with_polyblep(e: AudioEngine, waveform: u8, freq_hz: u32, duration_ms: u16) -> AudioEngine
     requires { ⌜ ValidEngine e ⌝ }
-    ensures { λ r. ⌜ Made ValidEngine (withPolyBlep e «freq_hz») r ⌝ }
+    ensures { λ r. ⌜ Made ValidEngine (withPolyBlep e waveform «freq_hz» «duration_ms») r ⌝ }
 {
-    if freq_hz == 0 {
+    if waveform > 3 {
         return e;
     }
-    e.play_polyblep(freq_hz, 60_000, PolyBlepWaveform::Sawtooth)
+    e.play_polyblep(freq_hz, duration_ms, fields::polyblep_waveform(waveform))
 }
 
-// Voice 0 to the left and voice 1 to the right.
-fn panned(e: AudioEngine) -> AudioEngine
-    requires { ⌜ ValidEngine e ⌝ }
-    ensures { λ r. ⌜ Made ValidEngine (spread e) r ⌝ }
-{
-    let left = e.set_voice_pan(0, 40);
-    left.set_voice_pan(1, 200)
-}
-
-fn sound(
-    n: usize,
-    mode: u8,
+// The requests one after another, then PolyBLEP on voice 0.
+fn sounding(
+    e: AudioEngine,
     bytes: &[u8],
-    sample_rate_hz: u32,
-    effect_count: u16,
     requests: &[u8],
-    polyblep_hz: u32,
+    waveform: u8,
+    freq_hz: u32,
+    duration_ms: u16,
 ) -> AudioEngine
-    ensures { λ r. ⌜ Made ValidEngine (withPolyBlep (readied n mode (now (bytes .entry)) «sample_rate_hz» «effect_count» (now (requests .entry))) «polyblep_hz») r ⌝ }
+    requires { ⌜ ValidEngine e ⌝ }
+    ensures { λ r. ⌜ Made ValidEngine (sounded (now (bytes .entry)) (now (requests .entry)) waveform «freq_hz» «duration_ms» e) r ⌝ }
 {
-    let e = ready(n, mode, bytes, sample_rate_hz, effect_count, requests);
-    with_polyblep(e, polyblep_hz)
+    let played = e.play_all(bytes, requests);
+    with_polyblep(played, waveform, freq_hz, duration_ms)
 }
 
-// Plays the requests in an engine of n voices: how many voices are audible then.
+fn panned(first: AudioEngine, pans: &[u8]) -> AudioEngine
+    requires { ⌜ ValidEngine first ⌝ }
+    ensures { λ r. ⌜ Made ValidEngine (pannedFrom 0 (now (pans .entry)) first) r ⌝ }
+{
+    let mut e = first;
+    let mut i = 0;
+    while i < pans.len() {
+        e = e.set_voice_pan(i, pans[i]);
+        i += 1;
+    }
+    e
+}
+
+// Plays the requests: each one's outcome, and how many voices are audible then.
 #[no_mangle]
 pub extern "C" fn birchjack_play(
     n: usize,
+    free_only: bool,
     bytes: &[u8],
     sample_rate_hz: u32,
     effect_count: u16,
     requests: &[u8],
-) -> usize
-    ensures { λ r. ⌜ r ≡ audibleCount (readied n 0 (now (bytes .entry)) «sample_rate_hz» «effect_count» (now (requests .entry)) .state) ⌝ }
+    outcomes: &mut [u16],
+    audible: &mut usize,
+) -> u8
+    ensures { λ r. ⌜ Answers (playTold (toldReady (readied n (policyOf «free_only») (settings «sample_rate_hz» 1000 M.Linear 255) (now (bytes .entry)) «effect_count»)) (now (bytes .entry)) (now (requests .entry)) (now (outcomes .entry))) (now (outcomes .entry), now (audible .entry)) r (now (outcomes .exit), now (audible .exit)) ⌝ }
 {
-    let e = ready(n, 0, bytes, sample_rate_hz, effect_count, requests);
-    e.active_voice_count()
+    let config = settings(sample_rate_hz, DEFAULT_PWM_PERIOD, DutyMode::Linear, 255);
+    let c = ready(n, free_only, config, bytes, effect_count);
+    let outcome = c.outcome;
+    match outcome {
+        Outcome::Refused(e) => e.number(),
+        Outcome::Done => {
+            let silent = c.engine;
+            let played = silent.play_each(bytes, requests, outcomes);
+            *audible = played.active_voice_count();
+            0
+        }
+    }
 }
 
-// Plays the requests, and PolyBLEP on voice 0 where its frequency is not 0, and fills the buffer with mono frames: how many cells were
-// written.
+// A mono frame in each cell.
 #[no_mangle]
 pub extern "C" fn birchjack_pcm_i16(
     n: usize,
+    free_only: bool,
+    master_gain_q8: u8,
     bytes: &[u8],
     sample_rate_hz: u32,
     effect_count: u16,
     requests: &[u8],
+    polyblep_waveform: u8,
     polyblep_hz: u32,
+    polyblep_ms: u16,
     out: &mut [i16],
-) -> usize
-    ensures { λ r. ⌜ Cells monoStep (once toI16) (withPolyBlep (readied n 0 (now (bytes .entry)) «sample_rate_hz» «effect_count» (now (requests .entry))) «polyblep_hz») (now (out .entry)) r (now (out .exit)) ⌝ }
+) -> u8
+    ensures { λ r. ⌜ Answers (cellsTold monoStep (once toI16) (toldReady (readied n (policyOf «free_only») (settings «sample_rate_hz» 1000 M.Linear «master_gain_q8») (now (bytes .entry)) «effect_count»)) (sounded (now (bytes .entry)) (now (requests .entry)) «polyblep_waveform» «polyblep_hz» «polyblep_ms») (now (out .entry))) (now (out .entry)) r (now (out .exit)) ⌝ }
 {
-    let e = sound(
-        n,
-        0,
-        bytes,
+    let config = settings(
         sample_rate_hz,
-        effect_count,
-        requests,
-        polyblep_hz,
+        DEFAULT_PWM_PERIOD,
+        DutyMode::Linear,
+        master_gain_q8,
     );
-    let f = e.fill_pcm_i16_buffer(out);
-    f.filled
+    let c = ready(n, free_only, config, bytes, effect_count);
+    let outcome = c.outcome;
+    match outcome {
+        Outcome::Refused(e) => e.number(),
+        Outcome::Done => {
+            let silent = c.engine;
+            let e = sounding(
+                silent,
+                bytes,
+                requests,
+                polyblep_waveform,
+                polyblep_hz,
+                polyblep_ms,
+            );
+            e.fill_pcm_i16_buffer(out);
+            0
+        }
+    }
 }
 
-// The same in stereo, with voice 0 to the left and voice 1 to the right.
+// A stereo frame in each pair of cells, with a pan for each voice from voice 0 on.
 #[no_mangle]
 pub extern "C" fn birchjack_stereo_i16(
     n: usize,
+    free_only: bool,
+    master_gain_q8: u8,
     bytes: &[u8],
     sample_rate_hz: u32,
     effect_count: u16,
     requests: &[u8],
+    polyblep_waveform: u8,
     polyblep_hz: u32,
+    polyblep_ms: u16,
+    pans: &[u8],
     out: &mut [i16],
-) -> usize
-    ensures { λ r. ⌜ Pairs stereoStep (sides toI16) (spread (withPolyBlep (readied n 0 (now (bytes .entry)) «sample_rate_hz» «effect_count» (now (requests .entry))) «polyblep_hz»)) (now (out .entry)) r (now (out .exit)) ⌝ }
+) -> u8
+    ensures { λ r. ⌜ Answers (pairsTold stereoStep (sides toI16) (toldReady (readied n (policyOf «free_only») (settings «sample_rate_hz» 1000 M.Linear «master_gain_q8») (now (bytes .entry)) «effect_count»)) (λ e. pannedFrom 0 (now (pans .entry)) (sounded (now (bytes .entry)) (now (requests .entry)) «polyblep_waveform» «polyblep_hz» «polyblep_ms» e)) (now (out .entry))) (now (out .entry)) r (now (out .exit)) ⌝ }
 {
-    let e = sound(
-        n,
-        0,
-        bytes,
+    let config = settings(
         sample_rate_hz,
-        effect_count,
-        requests,
-        polyblep_hz,
+        DEFAULT_PWM_PERIOD,
+        DutyMode::Linear,
+        master_gain_q8,
     );
-    let p = panned(e);
-    let f = p.fill_stereo_panned_i16_buffer(out);
-    f.filled
+    let c = ready(n, free_only, config, bytes, effect_count);
+    let outcome = c.outcome;
+    match outcome {
+        Outcome::Refused(e) => e.number(),
+        Outcome::Done => {
+            let silent = c.engine;
+            let e = sounding(
+                silent,
+                bytes,
+                requests,
+                polyblep_waveform,
+                polyblep_hz,
+                polyblep_ms,
+            );
+            let p = panned(e, pans);
+            p.fill_stereo_panned_i16_buffer(out);
+            0
+        }
+    }
 }
 
-// The same as compare values, in a duty mode: 0 linear, 1 first order, else second order.
+// A compare value in each cell, in a period: linear, or shaped, of first or of second order.
 #[no_mangle]
 pub extern "C" fn birchjack_duty(
     n: usize,
-    mode: u8,
+    free_only: bool,
+    master_gain_q8: u8,
+    period: u16,
+    shaped: bool,
+    second_order: bool,
     bytes: &[u8],
     sample_rate_hz: u32,
     effect_count: u16,
     requests: &[u8],
+    polyblep_waveform: u8,
     polyblep_hz: u32,
+    polyblep_ms: u16,
     out: &mut [u16],
-) -> usize
-    ensures { λ r. ⌜ Cells dutyStep duties (withPolyBlep (readied n mode (now (bytes .entry)) «sample_rate_hz» «effect_count» (now (requests .entry))) «polyblep_hz») (now (out .entry)) r (now (out .exit)) ⌝ }
+) -> u8
+    ensures { λ r. ⌜ Answers (cellsTold dutyStep duties (toldReady (readied n (policyOf «free_only») (settings «sample_rate_hz» period (modeOf shaped «second_order») «master_gain_q8») (now (bytes .entry)) «effect_count»)) (sounded (now (bytes .entry)) (now (requests .entry)) «polyblep_waveform» «polyblep_hz» «polyblep_ms») (now (out .entry))) (now (out .entry)) r (now (out .exit)) ⌝ }
 {
-    let e = sound(
-        n,
-        mode,
-        bytes,
-        sample_rate_hz,
-        effect_count,
-        requests,
-        polyblep_hz,
-    );
-    let f = e.fill_duty_buffer(out);
-    f.filled
+    let mode = mode_of(shaped, second_order);
+    let config = settings(sample_rate_hz, period, mode, master_gain_q8);
+    let c = ready(n, free_only, config, bytes, effect_count);
+    let outcome = c.outcome;
+    match outcome {
+        Outcome::Refused(e) => e.number(),
+        Outcome::Done => {
+            let silent = c.engine;
+            let e = sounding(
+                silent,
+                bytes,
+                requests,
+                polyblep_waveform,
+                polyblep_hz,
+                polyblep_ms,
+            );
+            e.fill_duty_buffer(out);
+            0
+        }
+    }
 }

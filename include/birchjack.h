@@ -80,26 +80,35 @@ uint8_t birchjack_payload(const uint8_t *bytes, size_t bytes_len, uint32_t sampl
 uint8_t birchjack_payload_of(const uint8_t *bytes, size_t bytes_len, uint32_t sample_rate_hz, uint16_t effect_count, uint16_t id,
                              uint32_t (*out)[2]);
 
-/* ---- an engine that lives for the call: n voices (16 at most), period 1,000, master gain 255, LowestPriorityOldest, this bank, and the
- * requests played one after another. A request has ten bytes, big-endian: id (2), attack (2), decay (2), sustain (1), release (2),
- * priority (1). Where a polyblep_hz other than 0 is given, voice 0 then sounds a sawtooth of that frequency for a minute. Where opening
- * or setting the bank is refused, the engine is the one that the refused call leaves. */
+/* ---- an engine that lives for the call: n voices, a policy (free_only: FreeChannelOnly, else LowestPriorityOldest), a master gain, this
+ * bank, and the requests played one after another. A request has ten bytes, big-endian: id (2), attack (2), decay (2), sustain (1),
+ * release (2), priority (1). Then voice 0 sounds PolyBLEP of a frequency for so many milliseconds: 0 sine, 1 sawtooth, 2 square,
+ * 3 triangle; of any other number none. 1 for more than 16 voices, 2 for a rate above 65,537, 3 for a period below 2, 4 where the
+ * bank's entries go past its bytes. */
 
-/* How many voices are audible after the requests. */
-size_t birchjack_play(size_t n, const uint8_t *bytes, size_t bytes_len, uint32_t sample_rate_hz, uint16_t effect_count,
-                      const uint8_t *requests, size_t requests_len);
+#define BIRCHJACK_NO_POLYBLEP 255
 
-/* A mono frame in each cell; how many cells were written. */
-size_t birchjack_pcm_i16(size_t n, const uint8_t *bytes, size_t bytes_len, uint32_t sample_rate_hz, uint16_t effect_count,
-                         const uint8_t *requests, size_t requests_len, uint32_t polyblep_hz, int16_t *out, size_t out_len);
+/* Each request's outcome, as far as there are cells: the voice that it got, or 256 * its refusal's number + 255. And how many voices
+ * are audible then. */
+uint8_t birchjack_play(size_t n, bool free_only, const uint8_t *bytes, size_t bytes_len, uint32_t sample_rate_hz, uint16_t effect_count,
+                       const uint8_t *requests, size_t requests_len, uint16_t *outcomes, size_t outcomes_len, size_t *audible);
 
-/* A stereo frame in each pair of cells, voice 0 to the left and voice 1 to the right; how many cells were written (an odd last is not). */
-size_t birchjack_stereo_i16(size_t n, const uint8_t *bytes, size_t bytes_len, uint32_t sample_rate_hz, uint16_t effect_count,
-                            const uint8_t *requests, size_t requests_len, uint32_t polyblep_hz, int16_t *out, size_t out_len);
+/* A mono frame in each cell. */
+uint8_t birchjack_pcm_i16(size_t n, bool free_only, uint8_t master_gain_q8, const uint8_t *bytes, size_t bytes_len,
+                          uint32_t sample_rate_hz, uint16_t effect_count, const uint8_t *requests, size_t requests_len,
+                          uint8_t polyblep_waveform, uint32_t polyblep_hz, uint16_t polyblep_ms, int16_t *out, size_t out_len);
 
-/* A compare value in each cell, in a duty mode: 0 linear, 1 first order, else second order; how many cells were written. */
-size_t birchjack_duty(size_t n, uint8_t mode, const uint8_t *bytes, size_t bytes_len, uint32_t sample_rate_hz, uint16_t effect_count,
-                      const uint8_t *requests, size_t requests_len, uint32_t polyblep_hz, uint16_t *out, size_t out_len);
+/* A stereo frame in each pair of cells (an odd last is not written), with a pan for each voice from voice 0 on. */
+uint8_t birchjack_stereo_i16(size_t n, bool free_only, uint8_t master_gain_q8, const uint8_t *bytes, size_t bytes_len,
+                             uint32_t sample_rate_hz, uint16_t effect_count, const uint8_t *requests, size_t requests_len,
+                             uint8_t polyblep_waveform, uint32_t polyblep_hz, uint16_t polyblep_ms, const uint8_t *pans,
+                             size_t pans_len, int16_t *out, size_t out_len);
+
+/* A compare value in each cell, in a period: linear, or shaped, of first or of second order. */
+uint8_t birchjack_duty(size_t n, bool free_only, uint8_t master_gain_q8, uint16_t period, bool shaped, bool second_order,
+                       const uint8_t *bytes, size_t bytes_len, uint32_t sample_rate_hz, uint16_t effect_count, const uint8_t *requests,
+                       size_t requests_len, uint8_t polyblep_waveform, uint32_t polyblep_hz, uint16_t polyblep_ms, uint16_t *out,
+                       size_t out_len);
 
 /* ---- a whole replay script (docs/REPLAY.md), which drives one engine through any of its calls. As much as there is room for is
  * written, and the length of all of it is the answer, as with snprintf: call once with out_len 0 to ask for the length. *good says

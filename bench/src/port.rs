@@ -1,41 +1,28 @@
 //! The port, over its static library, by the bare declarations of the crate for Rust: its safe functions would copy the requests.
 
-use birchjack::raw::{birchjack_duty, birchjack_find, birchjack_pcm_i16, birchjack_play, birchjack_stereo_i16};
+use birchjack::raw::{
+    birchjack_duty, birchjack_find, birchjack_pcm_i16, birchjack_play, birchjack_stereo_i16,
+};
 
 use crate::job::{Script, Side};
 
 pub struct Port;
 
-type Pcm = unsafe extern "C" fn(
-    usize,
-    *const u8,
-    usize,
-    u32,
-    u16,
-    *const u8,
-    usize,
-    u32,
-    *mut i16,
-    usize,
-) -> usize;
+const GAIN: u8 = 255;
+const PERIOD: u16 = 1000;
+const PANS: [u8; 2] = [40, 200];
 
-fn pcm(call: Pcm, script: &Script, out: &mut [i16]) -> usize {
-    let (bank, requests) = (&script.bank, &script.requests);
-    // SAFETY: as below.
-    unsafe {
-        call(
-            script.n,
-            bank.as_ptr(),
-            bank.len(),
-            script.rate,
-            script.count,
-            requests.as_ptr(),
-            requests.len(),
-            script.blep_hz,
-            out.as_mut_ptr(),
-            out.len(),
-        )
+/// A sawtooth of a minute, where a frequency is asked for: of a waveform above 3 none is started.
+fn tone(script: &Script) -> (u8, u32, u16) {
+    match script.blep_hz {
+        0 => (u8::MAX, 0, 0),
+        hz => (1, hz, 60_000),
     }
+}
+
+/// How many cells were written: all, or none where the call was refused.
+fn written(number: u8, cells: usize) -> usize {
+    if number == 0 { cells } else { 0 }
 }
 
 impl Side for Port {
@@ -46,45 +33,103 @@ impl Side for Port {
 
     fn play(script: &Script) -> usize {
         let (bank, requests) = (&script.bank, &script.requests);
+        let (outcomes, mut audible): (&mut [u16], usize) = (&mut [], 0);
         // SAFETY: as above.
         unsafe {
             birchjack_play(
                 script.n,
+                false,
                 bank.as_ptr(),
                 bank.len(),
                 script.rate,
                 script.count,
                 requests.as_ptr(),
                 requests.len(),
-            )
+                outcomes.as_mut_ptr(),
+                outcomes.len(),
+                &mut audible,
+            );
         }
+        audible
     }
 
     fn mono(script: &Script, out: &mut [i16]) -> usize {
-        pcm(birchjack_pcm_i16, script, out)
+        let (bank, requests) = (&script.bank, &script.requests);
+        let (waveform, hz, ms) = tone(script);
+        // SAFETY: as above.
+        let number = unsafe {
+            birchjack_pcm_i16(
+                script.n,
+                false,
+                GAIN,
+                bank.as_ptr(),
+                bank.len(),
+                script.rate,
+                script.count,
+                requests.as_ptr(),
+                requests.len(),
+                waveform,
+                hz,
+                ms,
+                out.as_mut_ptr(),
+                out.len(),
+            )
+        };
+        written(number, out.len())
     }
 
     fn stereo(script: &Script, out: &mut [i16]) -> usize {
-        pcm(birchjack_stereo_i16, script, out)
+        let (bank, requests) = (&script.bank, &script.requests);
+        let (waveform, hz, ms) = tone(script);
+        // SAFETY: as above.
+        let number = unsafe {
+            birchjack_stereo_i16(
+                script.n,
+                false,
+                GAIN,
+                bank.as_ptr(),
+                bank.len(),
+                script.rate,
+                script.count,
+                requests.as_ptr(),
+                requests.len(),
+                waveform,
+                hz,
+                ms,
+                PANS.as_ptr(),
+                PANS.len(),
+                out.as_mut_ptr(),
+                out.len(),
+            )
+        };
+        written(number, out.len())
     }
 
     fn duty(script: &Script, out: &mut [u16]) -> usize {
         let (bank, requests) = (&script.bank, &script.requests);
+        let (waveform, hz, ms) = tone(script);
         // SAFETY: as above.
-        unsafe {
+        let number = unsafe {
             birchjack_duty(
                 script.n,
-                script.mode,
+                false,
+                GAIN,
+                PERIOD,
+                script.mode != 0,
+                script.mode == 2,
                 bank.as_ptr(),
                 bank.len(),
                 script.rate,
                 script.count,
                 requests.as_ptr(),
                 requests.len(),
-                script.blep_hz,
+                waveform,
+                hz,
+                ms,
                 out.as_mut_ptr(),
                 out.len(),
             )
-        }
+        };
+        written(number, out.len())
     }
 }

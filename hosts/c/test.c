@@ -108,23 +108,81 @@ static void bank(void) {
     CHECK(bell[part[0]] == 1 && bell[part[0] + part[1] - 1] == 2);
 }
 
-static void engine(void) {
-    CHECK(birchjack_play(2, bell, 28, 8000, 1, ring, 0) == 0);
-    CHECK(birchjack_play(2, bell, 28, 8000, 1, ring, 10) == 1);
-    CHECK(birchjack_play(17, bell, 28, 8000, 1, ring, 10) == 0);
+/* Requests, of which each outcome is told. */
+static void requests(void) {
+    /* at priorities 3, 5, 6, 5 and 7, the last for an id that the bank has not */
+    uint8_t asked[50];
+    for (int i = 0; i < 5; i++) {
+        memcpy(asked + 10 * i, ring, 10);
+    }
+    asked[19] = 5;
+    asked[29] = 6;
+    asked[39] = 5;
+    asked[41] = 8;
+    asked[49] = 7;
+    uint16_t told[6];
+    size_t audible = 55;
+    CHECK(birchjack_play(2, false, bell, 28, 8000, 1, ring, 0, told, 0, &audible) == 0 && audible == 0);
+    told[5] = 55;
+    CHECK(birchjack_play(2, false, bell, 28, 8000, 1, asked, 50, told, 6, &audible) == 0 && audible == 2);
+    CHECK(told[0] == 0 && told[1] == 1 && told[2] == 0);
+    CHECK(told[3] == 256 * BIRCHJACK_VOICE_BUSY + 255 && told[4] == 256 * BIRCHJACK_EFFECT_NOT_FOUND + 255 && told[5] == 55);
+    /* only a free voice is taken; there are cells for three outcomes */
+    told[3] = 55;
+    CHECK(birchjack_play(2, true, bell, 28, 8000, 1, asked, 50, told, 3, &audible) == 0 && audible == 2);
+    CHECK(told[1] == 1 && told[2] == 256 * BIRCHJACK_VOICE_BUSY + 255 && told[3] == 55);
+    told[0] = 55;
+    audible = 55;
+    CHECK(birchjack_play(17, false, bell, 28, 8000, 1, asked, 50, told, 6, &audible) == BIRCHJACK_VOICE_COUNT);
+    CHECK(birchjack_play(2, false, bell, 28, 65538, 1, asked, 50, told, 6, &audible) == BIRCHJACK_BAD_RATE);
+    CHECK(birchjack_play(2, false, bell, 25, 8000, 1, asked, 50, told, 6, &audible) == BIRCHJACK_TRUNCATED_BANK);
+    CHECK(told[0] == 55 && audible == 55);
+}
+
+static void frames(void) {
     int16_t mono[33], stereo[33];
-    CHECK(birchjack_pcm_i16(2, bell, 28, 8000, 1, ring, 10, 0, mono, 33) == 33);
-    stereo[32] = 0x55;
-    CHECK(birchjack_stereo_i16(2, bell, 28, 8000, 1, ring, 10, 0, stereo, 33) == 32 && stereo[32] == 0x55);
     uint16_t duty[33], d;
-    CHECK(birchjack_duty(2, 0, bell, 28, 8000, 1, ring, 10, 0, duty, 33) == 33);
-    bool silent = true;
+    static const uint8_t left = 0;
+    const uint8_t none = BIRCHJACK_NO_POLYBLEP;
+    CHECK(birchjack_pcm_i16(2, false, 255, bell, 28, 8000, 1, ring, 10, none, 0, 0, mono, 33) == 0);
+    stereo[32] = 55;
+    CHECK(birchjack_stereo_i16(2, false, 255, bell, 28, 8000, 1, ring, 10, none, 0, 0, &left, 1, stereo, 33) == 0 && stereo[32] == 55);
+    CHECK(birchjack_duty(2, false, 255, 500, false, false, bell, 28, 8000, 1, ring, 10, none, 0, 0, duty, 33) == 0);
+    bool silent = true, one_sided = false;
     for (int i = 0; i < 33; i++) {
         silent = silent && mono[i] == 0;
         CHECK(mono[i] % 256 == 0);
-        CHECK(birchjack_duty_of((int8_t)(mono[i] / 256), 1000, &d) == 0 && d == duty[i]);
+        CHECK(birchjack_duty_of((int8_t)(mono[i] / 256), 500, &d) == 0 && d == duty[i]);
     }
-    CHECK(!silent);
+    for (int i = 0; i < 32; i += 2) {
+        one_sided = one_sided || stereo[i] != 0;
+        CHECK(stereo[i + 1] == 0);
+    }
+    CHECK(!silent && one_sided);
+    /* a sawtooth on voice 0 sounds otherwise */
+    CHECK(birchjack_pcm_i16(2, false, 255, bell, 28, 8000, 1, ring, 10, 1, 440, 1000, stereo, 33) == 0);
+    CHECK(memcmp(stereo, mono, sizeof mono) != 0);
+}
+
+static void refused_frames(void) {
+    int16_t pcm[3] = {55, 55, 55};
+    uint16_t duty[3] = {55, 55, 55};
+    /* voices, rate, bytes of the bank, period, answer */
+    static const uint32_t cases[4][5] = {{17, 8000, 28, 1000, BIRCHJACK_VOICE_COUNT},
+                                         {2, 65538, 28, 1000, BIRCHJACK_BAD_RATE},
+                                         {2, 8000, 25, 1000, BIRCHJACK_TRUNCATED_BANK},
+                                         {2, 8000, 28, 1, BIRCHJACK_BAD_PERIOD}};
+    for (int i = 0; i < 4; i++) {
+        const uint32_t *c = cases[i];
+        CHECK(birchjack_duty(c[0], false, 255, (uint16_t)c[3], true, true, bell, c[2], c[1], 1, ring, 10, 1, 440, 9, duty, 3) == c[4]);
+        if (i < 3) {
+            CHECK(birchjack_pcm_i16(c[0], false, 255, bell, c[2], c[1], 1, ring, 10, 1, 440, 9, pcm, 3) == c[4]);
+            CHECK(birchjack_stereo_i16(c[0], false, 255, bell, c[2], c[1], 1, ring, 10, 1, 440, 9, ring, 2, pcm, 3) == c[4]);
+        }
+    }
+    for (int i = 0; i < 3; i++) {
+        CHECK(pcm[i] == 55 && duty[i] == 55);
+    }
 }
 
 /* Document 01's list of frames, as a replay script: two voices, a square tone of 1,000 Hz, three duties, then a bad line. */
@@ -166,7 +224,9 @@ int main(void) {
     duties();
     envelope();
     bank();
-    engine();
+    requests();
+    frames();
+    refused_frames();
     scripts();
     printf("c: %d checks\n", checks);
     return 0;

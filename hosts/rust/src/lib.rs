@@ -16,7 +16,7 @@ mod refusal;
 mod script;
 
 pub use bank::{Bank, Entry};
-pub use player::{DutyMode, Player, Request};
+pub use player::{DutyMode, Played, Player, Policy, PolyBlep, Request, Waveform};
 pub use refusal::Refusal;
 pub use script::{Ran, answers, answers_of, sound, sound_of};
 

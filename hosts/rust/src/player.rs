@@ -1,6 +1,6 @@
 //! An engine that is opened, plays requests and gives frames, all in one call.
 
-use crate::{Bank, Envelope, raw};
+use crate::{Bank, Envelope, Refusal, raw};
 
 /// A play request. On the way over it has ten bytes, each number big-endian.
 #[derive(Clone, Copy, Debug, PartialEq, Eq)]
@@ -33,103 +33,190 @@ impl Request {
     }
 }
 
-/// How a sample becomes a compare value.
-#[derive(Clone, Copy, Debug, PartialEq, Eq)]
-#[repr(u8)]
-pub enum DutyMode {
-    Linear = 0,
-    SigmaDelta = 1,
-    SigmaDelta2ndOrder = 2,
+/// Which voice a request gets.
+#[derive(Clone, Copy, Debug, Default, PartialEq, Eq)]
+pub enum Policy {
+    #[default]
+    LowestPriorityOldest,
+    FreeChannelOnly,
 }
 
-/// An engine of some voices (16 at most), with a period of 1,000, a master gain of 255 and the policy LowestPriorityOldest. Each call opens
-/// it anew, sets the bank, plays the requests one after another, and then lets voice 0 sound a sawtooth where `polyblep_hz` is not 0.
-/// Where opening or setting the bank is refused, the engine is the one that the refused call leaves: silent.
+/// How a sample becomes a compare value.
+#[derive(Clone, Copy, Debug, PartialEq, Eq)]
+pub enum DutyMode {
+    Linear,
+    SigmaDelta,
+    SigmaDelta2ndOrder,
+}
+
+#[derive(Clone, Copy, Debug, PartialEq, Eq)]
+#[repr(u8)]
+pub enum Waveform {
+    Sine = 0,
+    Sawtooth = 1,
+    Square = 2,
+    Triangle = 3,
+}
+
+/// A tone by PolyBLEP.
+#[derive(Clone, Copy, Debug, PartialEq, Eq)]
+pub struct PolyBlep {
+    pub waveform: Waveform,
+    pub freq_hz: u32,
+    pub duration_ms: u16,
+}
+
+/// What a play of requests gives.
+#[derive(Clone, Debug, PartialEq, Eq)]
+pub struct Played {
+    /// The voice that each request got, or why it got none.
+    pub outcomes: Vec<Result<usize, Refusal>>,
+    /// How many voices are audible after the last.
+    pub audible: usize,
+}
+
+/// An engine of some voices with a policy and a master gain. Each call opens it anew, sets the bank and plays the requests one after
+/// another; those that give frames then let voice 0 sound the tone, where there is one. More than 16 voices, a rate above 65,537 and
+/// a bank whose entries go past its bytes are refused, and then nothing is written.
 #[derive(Clone, Copy, Debug)]
 pub struct Player<'a> {
     pub voices: usize,
+    pub policy: Policy,
+    pub master_gain_q8: u8,
     pub bank: Bank<'a>,
-    pub polyblep_hz: u32,
+    pub polyblep: Option<PolyBlep>,
 }
 
 impl Player<'_> {
-    /// How many voices are audible after the requests.
-    pub fn play(&self, requests: &[Request]) -> usize {
+    /// What becomes of each request.
+    pub fn play(&self, requests: &[Request]) -> Result<Played, Refusal> {
         let (bank, bytes) = (&self.bank, laid(requests));
-        unsafe {
+        let (mut cells, mut audible) = (vec![0; requests.len()], 0);
+        Refusal::read(unsafe {
             raw::birchjack_play(
                 self.voices,
+                self.free_only(),
                 bank.bytes.as_ptr(),
                 bank.bytes.len(),
                 bank.sample_rate_hz,
                 bank.effect_count,
                 bytes.as_ptr(),
                 bytes.len(),
+                cells.as_mut_ptr(),
+                cells.len(),
+                &mut audible,
             )
-        }
+        })?;
+        let outcomes = cells.into_iter().map(outcome).collect();
+        Ok(Played { outcomes, audible })
     }
 
-    /// A mono frame in each cell; how many cells were written.
-    pub fn pcm_i16(&self, requests: &[Request], out: &mut [i16]) -> usize {
-        self.fill(raw::birchjack_pcm_i16, requests, out)
-    }
-
-    /// A stereo frame in each pair of cells, voice 0 to the left and voice 1 to the right; how many cells were written.
-    pub fn stereo_i16(&self, requests: &[Request], out: &mut [i16]) -> usize {
-        self.fill(raw::birchjack_stereo_i16, requests, out)
-    }
-
-    fn fill(&self, call: Fill, requests: &[Request], out: &mut [i16]) -> usize {
+    /// A mono frame in each cell.
+    pub fn pcm_i16(&self, requests: &[Request], out: &mut [i16]) -> Result<(), Refusal> {
         let (bank, bytes) = (&self.bank, laid(requests));
-        unsafe {
-            call(
+        let (waveform, freq_hz, duration_ms) = self.tone();
+        Refusal::read(unsafe {
+            raw::birchjack_pcm_i16(
                 self.voices,
+                self.free_only(),
+                self.master_gain_q8,
                 bank.bytes.as_ptr(),
                 bank.bytes.len(),
                 bank.sample_rate_hz,
                 bank.effect_count,
                 bytes.as_ptr(),
                 bytes.len(),
-                self.polyblep_hz,
+                waveform,
+                freq_hz,
+                duration_ms,
                 out.as_mut_ptr(),
                 out.len(),
             )
-        }
+        })
     }
 
-    /// A compare value in each cell; how many cells were written.
-    pub fn duty(&self, mode: DutyMode, requests: &[Request], out: &mut [u16]) -> usize {
+    /// A stereo frame in each pair of cells (an odd last is not written), with a pan for each voice from voice 0 on.
+    pub fn stereo_i16(
+        &self,
+        pans: &[u8],
+        requests: &[Request],
+        out: &mut [i16],
+    ) -> Result<(), Refusal> {
         let (bank, bytes) = (&self.bank, laid(requests));
-        unsafe {
+        let (waveform, freq_hz, duration_ms) = self.tone();
+        Refusal::read(unsafe {
+            raw::birchjack_stereo_i16(
+                self.voices,
+                self.free_only(),
+                self.master_gain_q8,
+                bank.bytes.as_ptr(),
+                bank.bytes.len(),
+                bank.sample_rate_hz,
+                bank.effect_count,
+                bytes.as_ptr(),
+                bytes.len(),
+                waveform,
+                freq_hz,
+                duration_ms,
+                pans.as_ptr(),
+                pans.len(),
+                out.as_mut_ptr(),
+                out.len(),
+            )
+        })
+    }
+
+    /// A compare value in each cell, in a period of at least 2.
+    pub fn duty(
+        &self,
+        period: u16,
+        mode: DutyMode,
+        requests: &[Request],
+        out: &mut [u16],
+    ) -> Result<(), Refusal> {
+        let (bank, bytes) = (&self.bank, laid(requests));
+        let (waveform, freq_hz, duration_ms) = self.tone();
+        Refusal::read(unsafe {
             raw::birchjack_duty(
                 self.voices,
-                mode as u8,
+                self.free_only(),
+                self.master_gain_q8,
+                period,
+                mode != DutyMode::Linear,
+                mode == DutyMode::SigmaDelta2ndOrder,
                 bank.bytes.as_ptr(),
                 bank.bytes.len(),
                 bank.sample_rate_hz,
                 bank.effect_count,
                 bytes.as_ptr(),
                 bytes.len(),
-                self.polyblep_hz,
+                waveform,
+                freq_hz,
+                duration_ms,
                 out.as_mut_ptr(),
                 out.len(),
             )
+        })
+    }
+
+    fn free_only(&self) -> bool {
+        self.policy == Policy::FreeChannelOnly
+    }
+
+    /// The tone's three numbers; of a waveform above 3 none is started.
+    fn tone(&self) -> (u8, u32, u16) {
+        match self.polyblep {
+            None => (u8::MAX, 0, 0),
+            Some(p) => (p.waveform as u8, p.freq_hz, p.duration_ms),
         }
     }
 }
 
-type Fill = unsafe extern "C" fn(
-    usize,
-    *const u8,
-    usize,
-    u32,
-    u16,
-    *const u8,
-    usize,
-    u32,
-    *mut i16,
-    usize,
-) -> usize;
+/// A cell of `birchjack_play`: a voice, or 256 * the refusal's number + 255.
+fn outcome(cell: u16) -> Result<usize, Refusal> {
+    Refusal::read((cell >> 8) as u8)?;
+    Ok(usize::from(cell))
+}
 
 fn laid(requests: &[Request]) -> Vec<u8> {
     requests.iter().flat_map(Request::bytes).collect()

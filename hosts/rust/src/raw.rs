@@ -47,50 +47,70 @@ unsafe extern "C" {
     ) -> u8;
     pub fn birchjack_play(
         n: usize,
+        free_only: bool,
         bytes: *const u8,
         bytes_len: usize,
         sample_rate_hz: u32,
         effect_count: u16,
         requests: *const u8,
         requests_len: usize,
-    ) -> usize;
+        outcomes: *mut u16,
+        outcomes_len: usize,
+        audible: *mut usize,
+    ) -> u8;
     pub fn birchjack_pcm_i16(
         n: usize,
+        free_only: bool,
+        master_gain_q8: u8,
         bytes: *const u8,
         bytes_len: usize,
         sample_rate_hz: u32,
         effect_count: u16,
         requests: *const u8,
         requests_len: usize,
+        polyblep_waveform: u8,
         polyblep_hz: u32,
+        polyblep_ms: u16,
         out: *mut i16,
         out_len: usize,
-    ) -> usize;
+    ) -> u8;
     pub fn birchjack_stereo_i16(
         n: usize,
+        free_only: bool,
+        master_gain_q8: u8,
         bytes: *const u8,
         bytes_len: usize,
         sample_rate_hz: u32,
         effect_count: u16,
         requests: *const u8,
         requests_len: usize,
+        polyblep_waveform: u8,
         polyblep_hz: u32,
+        polyblep_ms: u16,
+        pans: *const u8,
+        pans_len: usize,
         out: *mut i16,
         out_len: usize,
-    ) -> usize;
+    ) -> u8;
     pub fn birchjack_duty(
         n: usize,
-        mode: u8,
+        free_only: bool,
+        master_gain_q8: u8,
+        period: u16,
+        shaped: bool,
+        second_order: bool,
         bytes: *const u8,
         bytes_len: usize,
         sample_rate_hz: u32,
         effect_count: u16,
         requests: *const u8,
         requests_len: usize,
+        polyblep_waveform: u8,
         polyblep_hz: u32,
+        polyblep_ms: u16,
         out: *mut u16,
         out_len: usize,
-    ) -> usize;
+    ) -> u8;
     pub fn birchjack_answers(
         script: *const u8,
         script_len: usize,

@@ -1,6 +1,8 @@
 //! Document 01's checked examples and its refusals, through the library.
 
-use birchjack::{Bank, DutyMode, Envelope, Player, Refusal, Request};
+use birchjack::{
+    Bank, DutyMode, Envelope, Played, Player, Policy, PolyBlep, Refusal, Request, Waveform,
+};
 
 const CLICK: Envelope = Envelope {
     attack_ms: 2,
@@ -125,40 +127,153 @@ fn a_bank() {
     assert_eq!(odd.find(7), Err(Refusal::InvalidEffectKind));
 }
 
+fn player() -> Player<'static> {
+    Player {
+        voices: 2,
+        policy: Policy::LowestPriorityOldest,
+        master_gain_q8: 255,
+        bank: bell(),
+        polyblep: None,
+    }
+}
+
+#[test]
+fn requests_and_their_outcomes() {
+    let played = |outcomes: &[_], audible| {
+        Ok(Played {
+            outcomes: outcomes.to_vec(),
+            audible,
+        })
+    };
+    let busy = Err(Refusal::VoiceBusy);
+    assert_eq!(player().play(&[]), played(&[], 0));
+    assert_eq!(player().play(&[ring(3)]), played(&[Ok(0)], 1));
+    // the third takes the voice of lowest priority, the fourth finds none below it
+    let four = [3, 5, 6, 5].map(ring);
+    assert_eq!(
+        player().play(&four),
+        played(&[Ok(0), Ok(1), Ok(0), busy], 2)
+    );
+    let free_only = Player {
+        policy: Policy::FreeChannelOnly,
+        ..player()
+    };
+    assert_eq!(
+        free_only.play(&four),
+        played(&[Ok(0), Ok(1), busy, busy], 2)
+    );
+    let unknown = Request { id: 8, ..ring(3) };
+    assert_eq!(
+        player().play(&[unknown, ring(3)]),
+        played(&[Err(Refusal::EffectNotFound), Ok(0)], 1)
+    );
+}
+
 #[test]
 fn requests_and_frames() {
-    let player = Player {
-        voices: 2,
-        bank: bell(),
-        polyblep_hz: 0,
-    };
-    assert_eq!(player.play(&[]), 0);
-    assert_eq!(player.play(&[ring(3)]), 1);
-    assert_eq!(player.play(&[3, 5, 5, 7].map(ring)), 2);
-    let crowd = Player {
-        voices: 17,
-        ..player
-    };
-    assert_eq!(crowd.play(&[ring(3)]), 0);
-
     let mut mono = [0x55; 33];
-    assert_eq!(player.pcm_i16(&[ring(3)], &mut mono), 33);
+    assert_eq!(player().pcm_i16(&[ring(3)], &mut mono), Ok(()));
     assert!(mono.iter().any(|s| *s != 0) && mono.iter().all(|s| s % 256 == 0));
-    let mut stereo = [0x55; 33];
-    assert_eq!(player.stereo_i16(&[ring(3)], &mut stereo), 32);
-    assert_eq!(stereo[32], 0x55);
     let mut duty = [0; 33];
-    assert_eq!(player.duty(DutyMode::Linear, &[ring(3)], &mut duty), 33);
-    for (d, s) in duty.iter().zip(mono) {
-        assert_eq!(Ok(*d), birchjack::duty_of((s / 256) as i8, 1000));
+    for period in [1000, 2, 65_535] {
+        assert_eq!(
+            player().duty(period, DutyMode::Linear, &[ring(3)], &mut duty),
+            Ok(())
+        );
+        for (d, s) in duty.iter().zip(mono) {
+            assert_eq!(Ok(*d), birchjack::duty_of((s / 256) as i8, period));
+        }
     }
+    let [linear, first, second] = [
+        DutyMode::Linear,
+        DutyMode::SigmaDelta,
+        DutyMode::SigmaDelta2ndOrder,
+    ]
+    .map(|mode| {
+        let mut out = [0; 400];
+        player().duty(1000, mode, &[ring(3)], &mut out).unwrap();
+        out
+    });
+    assert!(linear != first && first != second && second != linear);
+
+    let mute = Player {
+        master_gain_q8: 0,
+        ..player()
+    };
+    let mut silence = [0x55; 33];
+    assert_eq!(mute.pcm_i16(&[], &mut silence), Ok(()));
+    assert_eq!(silence, [0; 33]);
     let saw = Player {
-        polyblep_hz: 440,
-        ..player
+        polyblep: Some(PolyBlep {
+            waveform: Waveform::Sawtooth,
+            freq_hz: 440,
+            duration_ms: 60_000,
+        }),
+        ..player()
     };
     let mut with = [0; 33];
-    assert_eq!(saw.pcm_i16(&[ring(3)], &mut with), 33);
+    assert_eq!(saw.pcm_i16(&[ring(3)], &mut with), Ok(()));
     assert_ne!(with, mono);
+}
+
+#[test]
+fn pans() {
+    let sides = |pans: &[u8]| {
+        let mut out = [0x55; 33];
+        assert_eq!(player().stereo_i16(pans, &[ring(3)], &mut out), Ok(()));
+        // an odd last cell is not written
+        assert_eq!(out[32], 0x55);
+        let side = |at| out[..32].iter().skip(at).step_by(2).any(|s| *s != 0);
+        (side(0), side(1))
+    };
+    // the bell sounds in voice 0
+    assert_eq!(sides(&[]), (true, true));
+    assert_eq!(sides(&[0]), (true, false));
+    assert_eq!(sides(&[255, 0]), (false, true));
+    assert_eq!(sides(&[128, 0, 0, 0]), (true, true));
+}
+
+#[test]
+fn players_that_are_refused() {
+    let crowd = Player {
+        voices: 17,
+        ..player()
+    };
+    let fast = Player {
+        bank: Bank {
+            sample_rate_hz: 65_538,
+            ..bell()
+        },
+        ..player()
+    };
+    let short = Player {
+        bank: Bank {
+            bytes: &BELL[..25],
+            ..bell()
+        },
+        ..player()
+    };
+    for (player, refusal) in [
+        (crowd, Refusal::VoiceCount),
+        (fast, Refusal::BadRate),
+        (short, Refusal::TruncatedBank),
+    ] {
+        let (mut cells, mut duties) = ([0x55; 3], [0x55; 3]);
+        assert_eq!(player.play(&[ring(3)]), Err(refusal));
+        assert_eq!(player.pcm_i16(&[ring(3)], &mut cells), Err(refusal));
+        assert_eq!(player.stereo_i16(&[0], &[], &mut cells), Err(refusal));
+        assert_eq!(
+            player.duty(1000, DutyMode::Linear, &[], &mut duties),
+            Err(refusal)
+        );
+        assert_eq!((cells, duties), ([0x55; 3], [0x55; 3]));
+    }
+    let mut duties = [0x55; 3];
+    assert_eq!(
+        player().duty(1, DutyMode::Linear, &[], &mut duties),
+        Err(Refusal::BadPeriod)
+    );
+    assert_eq!(duties, [0x55; 3]);
 }
 
 #[test]

@@ -1,4 +1,4 @@
--- The allocation by ranks (Ranked.allocated-ranked says that it is document 01's). Assumes nothing.
+-- Inner: the allocation by ranks (Ranked.allocated-ranked says that it is document 01's). Assumes nothing.
 use Prim.Native.Nat.{ℕ, suc}
 use mathlib.Core.Bool.{cond}
 use mathlib.Core.List.{List}

@@ -14,7 +14,8 @@ use Rattle.tier.specs.declared.KindRead.the-variants.{Kind, Unknown}
 use Rattle.tier.specs.Kinds.{kindOf}
 use Rattle.bank.specs.declared.EffectEntry.{EffectEntry}
 use Rattle.bank.specs.Entries.{idAt, kindByte, fieldsAt, entryAt}
-use Rattle.bank.specs.Search.{halving, countFrom, upTo, decided, foundIn, settled}
+use Rattle.bank.specs.Search.{halving, countFrom, upTo, decided, foundIn}
+use Rattle.bank.specs.Loops.{settled}
 
 -- a byte up to 5 is a kind, one above is none
 record Known (n : ℕ) : Type 0 where

@@ -43,7 +43,3 @@ foundIn bytes count id = decided bytes id (halving bytes id count 0 count ++ upT
 
 abbrev pub foundGiven : BankSet → List ℕ → ℕ → Told EffectEntry
 foundGiven bank bytes id = andThen (lentBank bank (length bytes)) (λ b. foundIn bytes (b .«effect_count») id)
-
--- what a loop of the search gives: the place that decides, or count where none does and the others answer
-abbrev pub settled : List ℕ → ℕ → ℕ → Told EffectEntry → Told EffectEntry
-settled bytes count i others = cond (ltb i count) (entryAt bytes i) others

@@ -14,7 +14,7 @@ use Rattle.bank.specs.declared.EffectEntry.{EffectEntry}
 use Rattle.bank.specs.declared.SoundBank.{SoundBank}
 use Rattle.error.specs.Told.{Told, value, refused, andThen, passed, numberIn}
 use Rattle.error.proofs.Told.{value-is, not-refused}
-use Rattle.exports.specs.Banks.{lookedUp, partTold, partOf}
+use Rattle.exports.specs.Banks.{lookedUp, partTold, foundPart}
 
 -- 0 is no refusal's number
 abbrev Numbered : {A : Type 0} → Told A → Type 0
@@ -64,7 +64,7 @@ module _ (bytes : List ℕ) (rate count : ℕ) where
   part-inside offset len h = inside offset len (is-passed (lookedUp bytes rate count offset len) (looked-numbered offset len) h)
 
   -- of a lookup by id: the two numbers that are given
-  pub part-of-inside : (t : Told EffectEntry) (offset len : ℕ) → partOf bytes rate count t ≡ value (offset ∷ len ∷ []) → offset + len ≤ length bytes
+  pub part-of-inside : (t : Told EffectEntry) (offset len : ℕ) → foundPart bytes rate count t ≡ value (offset ∷ len ∷ []) → offset + len ≤ length bytes
   part-of-inside (refused n) offset len h = let z : _≡_ {A = ℕ} 0 1 = cc in omega arith
   part-of-inside (value e) offset len h = by (lookedUp bytes rate count (e .offset) (e .len)) refl h
     where

@@ -39,6 +39,6 @@ abbrev pub partTold : ℕ → ℕ → Told (Unit {0}) → Told (List ℕ)
 partTold offset len t = andThen t (λ _. value (offset ∷ len ∷ []))
 
 -- the part of the entry that a search finds
-abbrev pub partOf : List ℕ → ℕ → ℕ → Told EffectEntry → Told (List ℕ)
-partOf bytes rate count t =
+abbrev pub foundPart : List ℕ → ℕ → ℕ → Told EffectEntry → Told (List ℕ)
+foundPart bytes rate count t =
     andThen t (λ e. partTold (e .offset) (e .len) (lookedUp bytes rate count (e .offset) (e .len)))

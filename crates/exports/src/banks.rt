@@ -4,7 +4,7 @@ ghost use Rattle.error.specs.Told.{numberIn};
 ghost use Rattle.bank.specs.Banks.{toldPayload};
 ghost use Rattle.bank.specs.Entries.{toldEntry};
 ghost use Rattle.exports.specs.Told.{Answers};
-ghost use Rattle.exports.specs.Banks.{searched, entryCells, entryTold, lookedUp, partTold, partOf};
+ghost use Rattle.exports.specs.Banks.{searched, entryCells, entryTold, lookedUp, partTold, foundPart};
 use bank::BankRead;
 use bank::BankSet;
 use bank::EffectEntry;
@@ -111,7 +111,7 @@ pub extern "C" fn birchjack_payload_of(
     id: u16,
     out: &mut [u32; 2],
 ) -> u8
-    ensures { λ r. ⌜ Answers (partOf (now (bytes .entry)) «sample_rate_hz» «effect_count» (searched (now (bytes .entry)) «sample_rate_hz» «effect_count» id)) (now (out .entry)) r (now (out .exit)) ⌝ }
+    ensures { λ r. ⌜ Answers (foundPart (now (bytes .entry)) «sample_rate_hz» «effect_count» (searched (now (bytes .entry)) «sample_rate_hz» «effect_count» id)) (now (out .entry)) r (now (out .exit)) ⌝ }
 {
     match search(bytes, sample_rate_hz, effect_count, id) {
         EntryRead::Refused(e) => e.number(),

@@ -1,4 +1,4 @@
--- Requests for samples one after another, a block of them at once. Assumes nothing.
+-- Inner: requests for samples one after another, a block of them at once. Assumes nothing.
 use Prim.Native.Nat.{ℕ}
 use mathlib.Core.List.{List, [], _∷_}
 use lib.IntN.{ℤ}

@@ -4,8 +4,9 @@
 --     Sine         the source's approximation of the sine
 --     Waves        the four waveforms at a phase and a step
 --     Oscillators  the oscillator and the voice around it, call by call
---     Blocks       requests one after another
 --     Restores     an oscillator and a voice from their fields
+-- Inner, for the code's own steps; no definition of another kind rests on it:
+--     Blocks       requests one after another
 pub mod Ranges
 pub mod Blep
 pub mod Sine

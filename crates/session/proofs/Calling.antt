@@ -13,7 +13,7 @@ use Rattle.fills.specs.Fills.{Fill, fillFor, Shows}
 use Rattle.fills.specs.declared.Shown.{Shown}
 use Rattle.calls.specs.Calls.{called}
 use Rattle.calls.specs.declared.Called.{Called}
-use Rattle.session.specs.Sessions.{Told, badLine, calledAnswer, callAnswer, fillAllowed, filledAnswer, fillAnswer}
+use Rattle.session.specs.Sessions.{LaidAnswer, badLine, calledAnswer, callAnswer, fillAllowed, filledAnswer, fillAnswer}
 use Rattle.session.specs.declared.Session.{Session}
 
 pub not-open : (s : Session) (bytes l : List ℕ) → s .«is_open» ≡ false → callAnswer s bytes l ≡ badLine s
@@ -47,6 +47,6 @@ both-right false b e = never e
 pub few-cells : (l : List ℕ) → fillAllowed l ≡ true → wideAt l 1 ≤ 2048
 few-cells l e = leb-true (wideAt l 1) 2048 (both-right (eqb (length l) 6) (leb (wideAt l 1) 2048) e)
 
-pub filled-told : (s : Session) {f : Fill} {before after : List ℕ} {r : Shown} → s .lent ≤ 4096 → Shows f before after r → Told (filledAnswer s f) before after (record { len = r .len; more = true; session = record { «is_open» = s .«is_open»; lent = s .lent; engine = r .engine } })
+pub filled-told : (s : Session) {f : Fill} {before after : List ℕ} {r : Shown} → s .lent ≤ 4096 → Shows f before after r → LaidAnswer (filledAnswer s f) before after (record { len = r .len; more = true; session = record { «is_open» = s .«is_open»; lent = s .lent; engine = r .engine } })
 filled-told s h w =
     record { laid = w .laid; more = refl; session = record { same = ap (run s) (w .engine .same); valid = record { inside = w .engine .valid; short = h } } }

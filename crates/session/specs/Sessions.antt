@@ -173,7 +173,7 @@ unfoldable pub cellsAfter : List ℕ → List ℕ → List ℕ
 cellsAfter cells l = cond (isLine l) (cellsFor (byteAt l 0) cells l) cells
 
 -- an answer that was laid over a buffer from its front on
-pub record Told (a : Answer) (before after : List ℕ) (r : SessionAnswered) : Type 0 where
+pub record LaidAnswer (a : Answer) (before after : List ℕ) (r : SessionAnswered) : Type 0 where
   pub laid : Wrote before 0 (a .text) after (r .len)
   pub more : r .more ≡ a .more
   pub session : Made ValidSession (a .session) (r .session)

@@ -5,7 +5,7 @@ ghost use lib.ListN.{length, take};
 ghost use lib.Seq.{sets};
 ghost use Rattle.laws.specs.Made.{Made};
 ghost use Rattle.hex.specs.Hex.{byteAt};
-ghost use Rattle.session.specs.Sessions.{bytesAt, ValidSession, Told, Answers, started, policyOf, configAt, opens, openAnswer, lendAnswer, lentOver, goesOn, callAnswer, fillAnswer, fillAllowed, aloneAnswer, isCall, isFill, answerFor, sessionAnswer, badLine, cellsFor, cellsAfter};
+ghost use Rattle.session.specs.Sessions.{bytesAt, ValidSession, LaidAnswer, Answers, started, policyOf, configAt, opens, openAnswer, lendAnswer, lentOver, goesOn, callAnswer, fillAnswer, fillAllowed, aloneAnswer, isCall, isFill, answerFor, sessionAnswer, badLine, cellsFor, cellsAfter};
 use calls::Reply;
 use config::AudioConfig;
 use engine::AudioEngine;
@@ -69,7 +69,7 @@ impl Session {
 
 fn bad(s: Session, out: &mut [u8; 262144]) -> SessionAnswered
     requires { ⌜ ValidSession s ⌝ }
-    ensures { λ r. ⌜ Told (badLine s) (now (out .entry)) (now (out .exit)) r ⌝ }
+    ensures { λ r. ⌜ LaidAnswer (badLine s) (now (out .entry)) (now (out .exit)) r ⌝ }
 {
     let len = put_line(out, 0xffff, 4);
     SessionAnswered {
@@ -115,7 +115,7 @@ fn opens(l: &[u8]) -> bool
 
 fn open_answer(l: &[u8], s: Session, out: &mut [u8; 262144]) -> SessionAnswered
     requires { ⌜ ValidSession s ⌝ }
-    ensures { λ r. ⌜ Told (openAnswer s (now (l .entry))) (now (out .entry)) (now (out .exit)) r ⌝ }
+    ensures { λ r. ⌜ LaidAnswer (openAnswer s (now (l .entry))) (now (out .entry)) (now (out .exit)) r ⌝ }
 {
     if !opens(l) {
         return bad(s, out);
@@ -175,7 +175,7 @@ fn lend_answer(
 ) -> SessionAnswered
     requires { ⌜ ValidSession s ⌝ }
     requires { ⌜ length (now l) ≤ 8194 ⌝ }
-    ensures { λ r. ⌜ Told (lendAnswer s (now (l .entry))) (now (out .entry)) (now (out .exit)) r ⌝ }
+    ensures { λ r. ⌜ LaidAnswer (lendAnswer s (now (l .entry))) (now (out .entry)) (now (out .exit)) r ⌝ }
     ensures { λ r. ⌜ now (lent .exit) ≡ lentOver (now (lent .entry)) (now (l .entry)) ⌝ }
 {
     if l.len() % 2 != 0 {
@@ -215,7 +215,7 @@ fn goes_on(r: Reply) -> bool
 fn call_answer(l: &[u8], s: Session, cells: &[u8], out: &mut [u8; 262144]) -> SessionAnswered
     requires { ⌜ ValidSession s ⌝ }
     requires { ⌜ length (now cells) ≡ 4096 ⌝ }
-    ensures { λ r. ⌜ Told (callAnswer s (take (s .lent) (now (cells .entry))) (now (l .entry))) (now (out .entry)) (now (out .exit)) r ⌝ }
+    ensures { λ r. ⌜ LaidAnswer (callAnswer s (take (s .lent) (now (cells .entry))) (now (l .entry))) (now (out .entry)) (now (out .exit)) r ⌝ }
 {
     if !s.is_open {
         return bad(s, out);
@@ -244,7 +244,7 @@ pub fn fill_allowed(l: &[u8]) -> bool
 // A record that fills a buffer.
 fn fill_answer(l: &[u8], s: Session, out: &mut [u8; 262144]) -> SessionAnswered
     requires { ⌜ ValidSession s ⌝ }
-    ensures { λ r. ⌜ Told (fillAnswer s (now (l .entry))) (now (out .entry)) (now (out .exit)) r ⌝ }
+    ensures { λ r. ⌜ LaidAnswer (fillAnswer s (now (l .entry))) (now (out .entry)) (now (out .exit)) r ⌝ }
 {
     if !s.is_open {
         return bad(s, out);

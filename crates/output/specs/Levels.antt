@@ -1,8 +1,9 @@
 -- The bus limiter and the scales of other converters. Assumes nothing.
 use Prim.Native.Nat.{ℕ}
 use mathlib.Core.Bool.{cond}
-use lib.IntN.{ℤ, pos, negsuc, natAbs, _+ℤ_}
+use lib.IntN.{ℤ, pos, natAbs, _+ℤ_}
 use lib.Signed.{ltZ}
+use Rattle.laws.specs.Whole.{neg}
 use Rattle.error.specs.Numbers.{numberOf}
 use Rattle.error.specs.Told.{Told, value, refused}
 use Rattle.fixed.specs.Fixed.{limited}
@@ -11,7 +12,7 @@ use Rattle.output.specs.declared.Limited.the-variants as L
 
 -- "Bus limiter alone | sum outside −2,048..2,032 | 11 BadSum"
 abbrev pub limitedBus : ℤ → Told ℤ
-limitedBus sum = cond (ltZ sum (negsuc 2047)) (refused 11) (cond (ltZ (pos 2032) sum) (refused 11) (value (limited sum)))
+limitedBus sum = cond (ltZ sum (neg 2048)) (refused 11) (cond (ltZ (pos 2032) sum) (refused 11) (value (limited sum)))
 
 abbrev pub toldLimit : Limited → Told ℤ
 toldLimit (L.Sample s) = value s

@@ -2,7 +2,7 @@
 use Prim.Native.Nat.{ℕ, _+_, _-_, _*_, _/_, _%_, _^_}
 use mathlib.Core.Bool.{Bool, true, false, cond}
 use lib.Dec.{ltb, eqb}
-use lib.IntN.{ℤ, pos, negsuc, negℤ, _-ℤ_}
+use lib.IntN.{ℤ, pos, negℤ, _-ℤ_}
 use Rattle.fixed.specs.Fixed.{increment, indexOf, sine}
 use Rattle.fixed.specs.declared.Given.the-variants as G
 use Rattle.tone.specs.Duration.{durationOf, lessOne}

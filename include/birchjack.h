@@ -1,5 +1,5 @@
 /* The calls of Birchjack's static library (docs/HOSTS.md). Every call is proved: it ends, it traps nowhere, and it gives what its
- * definition in crates/exports/specs or crates/runs/specs says, for all arguments.
+ * definition in crates/exports/specs or crates/exports_replay/specs says, for all arguments.
  *
  * What a call is lent it lends back: nothing is kept, nothing is allocated, and there is no state between calls. A buffer is a pointer
  * and a number of elements. The pointer is never NULL, not even where the number is 0, and no buffer that is written overlaps another.

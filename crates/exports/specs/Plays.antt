@@ -12,7 +12,7 @@ use Rattle.engine.specs.Requests.{playedAll, outcomesOf, requestsOf}
 use Rattle.engine.specs.declared.AudioEngine.{AudioEngine}
 use Rattle.engine.specs.declared.EngineChanged.{EngineChanged}
 use Rattle.error.specs.Told.{Told, value, andThen}
-use Rattle.fields.specs.Read.{polyBlepWaveform}
+use Rattle.replay_fields.specs.Read.{polyBlepWaveform}
 use Rattle.laws.specs.Runs.{given}
 use Rattle.mixer.specs.declared.Mixer.{Mixer}
 use Rattle.mixer.specs.declared.Changed.{Changed}

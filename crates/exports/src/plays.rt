@@ -75,7 +75,11 @@ fn with_polyblep(e: AudioEngine, waveform: u8, freq_hz: u32, duration_ms: u16) -
     if waveform > 3 {
         return e;
     }
-    e.play_polyblep(freq_hz, duration_ms, fields::polyblep_waveform(waveform))
+    e.play_polyblep(
+        freq_hz,
+        duration_ms,
+        replay_fields::polyblep_waveform(waveform),
+    )
 }
 
 // The requests one after another, then PolyBLEP on voice 0.

@@ -29,7 +29,7 @@ fn answered(r: Run, line: &[u8], n: usize, out: &mut [u8; 262144]) -> Run
         return Run { more: false, ..r };
     }
     let before = r.engine;
-    let a = lists::answer(&line[..n], before, out);
+    let a = framelist_answers::answer(&line[..n], before, out);
     let is_written = write_front(&*out, a.len);
     let engine = a.engine;
     Run {
@@ -47,7 +47,7 @@ fn feed(r: Run, chunk: &[u8], line: &mut [u8; 17], out: &mut [u8; 262144]) -> Ru
     let mut t = r;
     let mut i = 0;
     while i < chunk.len() && t.more {
-        let f = lines::fill(line, t.line, chunk, i);
+        let f = input_lines::fill(line, t.line, chunk, i);
         i = f.next;
         if f.ended {
             t = answered(t, &*line, f.line, out);
@@ -84,7 +84,7 @@ fn main() {
     let mut r = Run {
         line: 0,
         more: true,
-        engine: lists::start(),
+        engine: framelist_answers::start(),
     };
     let mut turns = u64::MAX;
     while turns > 0 && r.more {

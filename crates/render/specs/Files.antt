@@ -7,7 +7,7 @@ use lib.Dec.{leb, ltb, eqb}
 use lib.IntN.{ℤ}
 use lib.ListN.{length, take}
 use Rattle.wav.specs.Wav.{wavFits, cellBytes}
-use Rattle.texts.specs.declared.Clock.{Clock}
+use Rattle.render_texts.specs.declared.Clock.{Clock}
 use Rattle.render.specs.declared.file.SoundFile.{SoundFile}
 use Rattle.render.specs.declared.file.Room.{Room}
 use Rattle.render.specs.declared.file.Room.the-variants as R

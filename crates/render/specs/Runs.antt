@@ -1,6 +1,6 @@
 -- What stays true of a run over a script's lines. Assumes nothing.
 use Prim.Native.Nat.{_≤_}
-use Rattle.session.specs.Sessions.{ValidSession}
+use Rattle.replay_session.specs.Sessions.{ValidSession}
 use Rattle.render.specs.declared.steps.Run.{Run}
 
 pub record ValidRun (r : Run) : Type 0 where

@@ -4,7 +4,7 @@ ghost use mathlib.Core.Bool.{_&&_};
 ghost use Prim.Native.Nat.{_≤_};
 ghost use lib.ListN.{length};
 ghost use Rattle.render.specs.Files.{moreFrames, otherRate, roomFor, heldCount, Kept, Adds};
-use texts::Clock;
+use render_texts::Clock;
 use wav::put_cells;
 
 // The file's descriptor, its rate and frames so far, how many bytes are held back, and whether all went well.

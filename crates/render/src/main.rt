@@ -1,5 +1,5 @@
 // render OUT.wav [SCRIPT]: runs a replay script, writes what it sounds like to OUT.wav and a short account to standard output. What a
-// line does is `session`'s, what it sounds like is `sounds`', what is told of it is `account`'s, and how a file is laid out is `wav`'s.
+// line does is `replay_session`'s, what it sounds like is `render_sounds`', what is told of it is `render_account`'s, and how a file is laid out is `wav`'s.
 mod file;
 mod problems;
 mod steps;
@@ -10,13 +10,13 @@ ghost use Rattle.render.specs.Files.{rateOfNone, lastClock};
 use file::SoundFile;
 use file::flushed;
 use file::write_header;
-use session::Session;
+use render_texts::Clock;
+use replay_session::Session;
 use steps::Place;
 use steps::Run;
 use steps::print;
 use steps::rate_of;
 use steps::read_some;
-use texts::Clock;
 
 // The script's descriptor, or -1 where it cannot be opened: the second argument's, or else standard input.
 fn script() -> i32 {
@@ -60,7 +60,7 @@ fn finish(path: &[u8], f: SoundFile, rate: u32, kept: &[u8; 65536])
     let g = flushed(f, kept);
     let clock = last_clock(g.clock, rate);
     if write_header(g.fd, clock) && g.is_written {
-        print(account::total(clock));
+        print(render_account::total(clock));
     } else {
         os::fail(path);
     }

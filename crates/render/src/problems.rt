@@ -3,7 +3,7 @@ ghost use mathlib.Core.Path.{_≡_};
 ghost use Rattle.render.specs.Files.{tensOf, fits};
 use crate::file::Room;
 use libc::STDERR_FILENO;
-use texts::Clock;
+use render_texts::Clock;
 
 fn note(words: &[u8]) {
     io::write_all(STDERR_FILENO, words);

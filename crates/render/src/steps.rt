@@ -2,17 +2,17 @@
 ghost use mathlib.Core.Path.{_≡_};
 ghost use Prim.Native.Nat.{_≤_};
 ghost use lib.ListN.{length};
-ghost use Rattle.session.specs.Sessions.{ValidSession};
+ghost use Rattle.replay_session.specs.Sessions.{ValidSession};
 ghost use Rattle.render.specs.Runs.{ValidRun};
 use crate::file::SoundFile;
 use crate::file::add;
 use crate::file::room_for;
 use crate::problems;
 use libc::STDOUT_FILENO;
-use session::Session;
+use render_texts::Clock;
+use render_texts::Text;
+use replay_session::Session;
 use std::num::wrapping_add_u64;
-use texts::Clock;
-use texts::Text;
 
 // How much of a line is kept, how many lines there were, and whether the run goes on.
 pub struct Place {
@@ -54,7 +54,7 @@ pub fn print(t: Text)
 fn told(l: &[u8], answer: &[u8], before: Session, c: Clock)
     requires { ⌜ ValidSession before ⌝ }
 {
-    print(account::tell(l, answer, before.engine(), c));
+    print(render_account::tell(l, answer, before.engine(), c));
 }
 
 // Answers a line and tells it in the account. A line that is no record ends the run.
@@ -65,7 +65,7 @@ fn answered(r: Run, l: &[u8], lent: &mut [u8; 4096], out: &mut [u8; 262144]) -> 
     let p = r.place;
     let f = r.file;
     let before = r.session;
-    let a = session::answer(l, before, lent, out);
+    let a = replay_session::answer(l, before, lent, out);
     if !a.more {
         problems::bad_line(p.number);
         return stopped(r);
@@ -112,7 +112,7 @@ fn line_done(
     ensures { λ s. ⌜ ValidRun s ⌝ }
 {
     let before = r.session;
-    let n = sounds::sound(l, before, cells);
+    let n = render_sounds::sound(l, before, cells);
     if n == 0 {
         return answered(r, l, lent, out);
     }
@@ -167,7 +167,7 @@ fn feed(
     let mut i = 0;
     while i < chunk.len() && t.place.more {
         let p = t.place;
-        let f = lines::fill(line, p.line, chunk, i);
+        let f = input_lines::fill(line, p.line, chunk, i);
         i = f.next;
         if f.ended {
             t = ended(t, &*line, f.line, lent, out, cells, kept);

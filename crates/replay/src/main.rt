@@ -2,10 +2,10 @@
 // library's.
 ghost use Prim.Native.Nat.{_+_, _≤_};
 ghost use lib.ListN.{length};
-ghost use Rattle.session.specs.Sessions.{ValidSession};
+ghost use Rattle.replay_session.specs.Sessions.{ValidSession};
 use libc::STDIN_FILENO;
 use libc::STDOUT_FILENO;
-use session::Session;
+use replay_session::Session;
 
 // How much of a line is kept, how many bytes of answers are held back, and whether the run goes on.
 struct State {
@@ -71,7 +71,7 @@ fn answered(
         let state = State { more: false, ..s };
         return Run { state, ..r };
     }
-    let a = session::answer(&line[..n], before, lent, out);
+    let a = replay_session::answer(&line[..n], before, lent, out);
     let t = State {
         line: 0,
         held: s.held,
@@ -101,7 +101,7 @@ fn feed(
     let mut i = 0;
     while i < chunk.len() && t.state.more {
         let s = t.state;
-        let f = lines::fill(line, s.line, chunk, i);
+        let f = input_lines::fill(line, s.line, chunk, i);
         i = f.next;
         if f.ended {
             t = answered(t, &*line, f.line, lent, out, kept);

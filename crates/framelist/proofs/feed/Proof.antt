@@ -4,7 +4,7 @@ use Prim.Native.Nat.{_-_, _≤_, _<_}
 use native.Mathlib.Omega.{arith}
 use lib.ListN.{length}
 use Rattle.engine.specs.Engines.{ValidEngine}
-use Rattle.lines.proofs.Laws.{reads-on}
+use Rattle.input_lines.proofs.Laws.{reads-on}
 use Rattle.framelist.proofs.feed.Statement.{statement}
 use Rattle.framelist.proofs.feed.Tie as tie
 

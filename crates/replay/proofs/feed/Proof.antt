@@ -3,8 +3,8 @@ use borrow.Author.Needs.{needs}
 use Prim.Native.Nat.{_-_, _≤_, _<_}
 use native.Mathlib.Omega.{arith}
 use lib.ListN.{length}
-use Rattle.session.specs.Sessions.{ValidSession}
-use Rattle.lines.proofs.Laws.{reads-on}
+use Rattle.replay_session.specs.Sessions.{ValidSession}
+use Rattle.input_lines.proofs.Laws.{reads-on}
 use Rattle.replay.proofs.feed.Statement.{statement}
 use Rattle.replay.proofs.feed.Tie as tie
 

@@ -1,7 +1,7 @@
 -- `replay::main` is safe and ends. The measure is the number of turns that are left; from turn to turn the run stays valid.
 use borrow.Author.Needs.{needs}
 use native.Mathlib.Omega.{arith}
-use Rattle.session.specs.Sessions.{ValidSession}
+use Rattle.replay_session.specs.Sessions.{ValidSession}
 use Rattle.replay.proofs.main.Statement.{statement}
 use Rattle.replay.proofs.main.Tie as tie
 

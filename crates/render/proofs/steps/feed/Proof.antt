@@ -4,7 +4,7 @@ use Prim.Native.Nat.{_-_, _≤_, _<_}
 use native.Mathlib.Omega.{arith}
 use lib.ListN.{length}
 use Rattle.render.specs.Runs.{ValidRun}
-use Rattle.lines.proofs.Laws.{reads-on}
+use Rattle.input_lines.proofs.Laws.{reads-on}
 use Rattle.render.proofs.steps.feed.Statement.{statement}
 use Rattle.render.proofs.steps.feed.Tie as tie
 

@@ -1,7 +1,7 @@
 -- `render::steps::line_done` is safe and keeps the run valid: a line sounds at most as many cells as their buffer has.
 use borrow.Author.Needs.{needs}
 use native.Mathlib.Omega.{arith}
-use Rattle.sounds.proofs.Laws.{sound-length, few-frames}
+use Rattle.render_sounds.proofs.Laws.{sound-length, few-frames}
 use Rattle.render.proofs.steps.line_done.Statement.{statement}
 use Rattle.render.proofs.steps.line_done.Tie as tie
 

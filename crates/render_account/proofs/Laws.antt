@@ -1,0 +1,105 @@
+-- No line of the account is longer than a text holds. Assumes nothing.
+use Prim.Native.Nat.{ℕ, _*_, _≤_}
+use mathlib.Core.Path.{refl}
+use mathlib.Core.List.{List, []}
+use native.Mathlib.Omega.{arith}
+use borrow.Author.Tests.{leb-true}
+use lib.Dec.{eqb}
+use lib.ListN.{length, length-append}
+use Rattle.render_texts.specs.Texts.{words, millisecondsOf}
+use Rattle.render_texts.specs.declared.Clock.{Clock}
+use Rattle.render_texts.proofs.Whole.{either-within, words-within, decimal-within, things-within, seconds-within, time-within}
+use Rattle.hex.specs.Hex.{byteAt, wideAt, longAt}
+use Rattle.voice.specs.Voices.{audible}
+use Rattle.mixer.specs.Mixers.{voiceRead}
+use Rattle.mixer.specs.declared.VoiceRead.{VoiceRead}
+use Rattle.mixer.specs.declared.VoiceRead.the-variants as R
+use Rattle.engine.specs.declared.AudioEngine.{AudioEngine}
+use Rattle.render_account.specs.Account as T
+
+why-within : (n : ℕ) → length (T.whyText n) ≤ 55
+unfolding T.whyText
+why-within n = search (words-within, leb-true) depth 13
+
+end-within : (n : ℕ) → length (T.endText n) ≤ 89
+unfolding T.endText
+end-within n = either-within 89 (eqb n 0) _ _ (omega arith) (simp length-append (omega (arith, decimal-within n, why-within n)))
+
+count-within : (head : List ℕ) (n : ℕ) (name : List ℕ) (hz : ℕ) (answer : List ℕ) (c : Clock) → length head ≤ 14 → length name ≤ 6
+    → length (T.countText head n name hz answer c) ≤ 256
+unfolding T.countText
+count-within head n name hz answer c h k =
+    simp length-append (omega (arith, h, k, time-within c, things-within n name, decimal-within hz, end-within (byteAt answer 0)))
+
+taken-within : (v : VoiceRead) → length (T.takenText v) ≤ 42
+taken-within R.None = omega arith
+taken-within (R.Voice v) = either-within 42 (audible v) _ _ (simp length-append (omega (arith, decimal-within (v .priority)))) (omega arith)
+
+voice-within : (e : AudioEngine) (voice : ℕ) → length (T.voiceText e voice) ≤ 70
+unfolding T.voiceText
+voice-within e voice = simp length-append (omega (arith, decimal-within voice, taken-within (voiceRead (e .state) voice)))
+
+outcome-within : (answer : List ℕ) (e : AudioEngine) → length (T.outcomeText answer e) ≤ 89
+outcome-within answer e =
+    either-within 89 (eqb (byteAt answer 0) 0) _ _ (simp length-append (omega (arith, voice-within e (byteAt answer 1)))) (end-within (byteAt answer 0))
+
+play-within : (l answer : List ℕ) (e : AudioEngine) (c : Clock) → length (T.playText l answer e c) ≤ 256
+unfolding T.playText
+play-within l answer e c =
+    simp length-append (omega (arith, time-within c, decimal-within (wideAt l 1), decimal-within (byteAt l 10), outcome-within answer e))
+
+fade-within : (l answer : List ℕ) (c : Clock) → length (T.fadeText l answer c) ≤ 256
+unfolding T.fadeText
+fade-within l answer c =
+    simp length-append (omega (arith, time-within c, decimal-within (wideAt l 1), decimal-within (wideAt l 3), end-within (byteAt answer 0)))
+
+lasting-within : (ms : ℕ) → length (T.lastingText ms) ≤ 28
+unfolding T.lastingText
+lasting-within ms = words-within 28 (eqb ms 0) _ _ refl (simp length-append (omega (arith, decimal-within ms)))
+
+sounding-within : (l : List ℕ) (e : AudioEngine) → length (T.soundingText l e) ≤ 74
+unfolding T.soundingText
+sounding-within l e =
+    let last : length (T.voicesText (e .state .n)) ≤ 22 = search (words-within, leb-true) in
+    simp length-append (omega (arith, decimal-within (longAt l 1), lasting-within (wideAt l 5), last))
+
+tone-within : (l : List ℕ) (e : AudioEngine) (c : Clock) → length (T.toneText l e c) ≤ 256
+unfolding T.toneText
+tone-within l e c =
+    let name : length (T.toneName (byteAt l 7)) ≤ 8 = search (words-within, leb-true) in
+    simp length-append (omega (arith, time-within c, name, sounding-within l e))
+
+polyblep-within : (l : List ℕ) (e : AudioEngine) (c : Clock) → length (T.polyblepText l e c) ≤ 256
+unfolding T.polyblepText
+polyblep-within l e c =
+    let name : length (T.polyblepName (byteAt l 7)) ≤ 8 = search (words-within, leb-true) in
+    simp length-append (omega (arith, time-within c, name, sounding-within l e))
+
+stop-within : (c : Clock) → length (T.stopText c) ≤ 256
+unfolding T.stopText
+stop-within c = simp length-append (omega (arith, time-within c))
+
+ask-within : (question answer : List ℕ) (c : Clock) → length question ≤ 45 → length (T.askText question answer c) ≤ 256
+unfolding T.askText
+ask-within question answer c h =
+    words-within 256 (eqb (byteAt answer 0) 0) _ _ refl (simp length-append (omega (arith, h, time-within c, end-within (byteAt answer 0))))
+
+pub line-within : (l answer : List ℕ) (e : AudioEngine) (c : Clock) → length (T.lineText l answer e c) ≤ 256
+unfolding T.lineText
+line-within l answer e c =
+    let code = byteAt l 0 in
+    either-within 256 (eqb code 0x10) _ _ (count-within (words "open ") (byteAt l 1) (words " voice") (longAt l 2) answer c (omega arith) (omega arith))
+    (either-within 256 (eqb code 0x11) _ _ (count-within (words "set a bank of ") (wideAt l 5) (words " sound") (longAt l 1) answer c (omega arith) (omega arith))
+    (either-within 256 (eqb code 0x13) _ _ (play-within l answer e c)
+    (either-within 256 (eqb code 0x14) _ _ (fade-within l answer c)
+    (either-within 256 (eqb code 0x15) _ _ (tone-within l e c)
+    (either-within 256 (eqb code 0x16) _ _ (polyblep-within l e c)
+    (either-within 256 (eqb code 0x19) _ _ (stop-within c)
+    (either-within 256 (eqb code 0x1A) _ _ (ask-within (T.searchQuestion l) answer c (simp length-append (omega (arith, decimal-within (wideAt l 1)))))
+    (either-within 256 (eqb code 0x1B) _ _ (ask-within T.payloadQuestion answer c (omega arith))
+    (either-within 256 (eqb code 0x1C) _ _ (ask-within (T.voiceQuestion l) answer c (simp length-append (omega (arith, decimal-within (byteAt l 1)))))
+    (omega arith))))))))))
+
+pub total-within : (c : Clock) → length (T.totalText c) ≤ 256
+unfolding T.totalText
+total-within c = simp length-append (omega (arith, seconds-within (millisecondsOf c), decimal-within (c .rate), decimal-within (4 * c .frames)))

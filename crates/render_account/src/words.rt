@@ -1,0 +1,83 @@
+// Pieces of the account's lines.
+ghost use Rattle.render_texts.specs.Texts.{Adds};
+ghost use Rattle.engine.specs.Engines.{ValidEngine};
+ghost use Rattle.render_account.specs.Account as T;
+use engine::AudioEngine;
+use hex::long_at;
+use hex::wide_at;
+use mixer::VoiceRead;
+use render_texts::Text;
+use render_texts::count;
+use render_texts::say;
+
+// Why a call is turned down: document 01's numbers in words.
+fn why(t: Text, number: u8) -> Text
+    ensures { λ r. ⌜ Adds t (T.whyText number) r ⌝ }
+{
+    match number {
+        1 => say(t, b"more than 16 voices"),
+        2 => say(t, b"a rate above 65,537 Hz"),
+        3 => say(t, b"a period below 2"),
+        4 => say(t, b"the bank ends before what is asked of it"),
+        5 => say(t, b"there is no voice for it"),
+        6 => say(t, b"no bank is set"),
+        7 => say(
+            t,
+            b"the bytes lent are not as many as the bank that was set",
+        ),
+        8 => say(t, b"no entry has this id"),
+        9 => say(t, b"an entry is of no known kind"),
+        10 => say(t, b"the entry is of a kind that is not carried"),
+        11 => say(t, b"a sum outside the limiter's range"),
+        _ => say(t, b"a number without words"),
+    }
+}
+
+// The end of a line: nothing more where a call was accepted.
+pub(crate) fn ended(t: Text, number: u8) -> Text
+    ensures { λ r. ⌜ Adds t (T.endText number) r ⌝ }
+{
+    if number == 0 {
+        return say(t, b"\n");
+    }
+    let counted = count(say(t, b": refused, "), number as u64);
+    say(why(say(counted, b": "), number), b"\n")
+}
+
+// The voice that a request got; where it was audible, whose it was.
+pub(crate) fn voiced(t: Text, e: AudioEngine, voice: u8) -> Text
+    requires { ⌜ ValidEngine e ⌝ }
+    ensures { λ r. ⌜ Adds t (T.voiceText e voice) r ⌝ }
+{
+    let got = count(say(t, b": voice "), voice as u64);
+    match e.voice(voice as usize) {
+        VoiceRead::None => got,
+        VoiceRead::Voice(v) => {
+            if v.is_audible() {
+                return count(say(got, b", taken from priority "), v.priority as u64);
+            }
+            got
+        }
+    }
+}
+
+fn lasting(t: Text, ms: u16) -> Text
+    ensures { λ r. ⌜ Adds t (T.lastingText ms) r ⌝ }
+{
+    if ms == 0 {
+        return say(t, b" without end");
+    }
+    say(count(say(t, b" for "), ms as u64), b" ms")
+}
+
+// A frequency and how long; a box of no voices has none to sound it.
+pub(crate) fn sounding(t: Text, l: &[u8], e: AudioEngine) -> Text
+    ensures { λ r. ⌜ Adds t (T.soundingText (now (l .entry)) e) r ⌝ }
+{
+    let hz = say(count(t, long_at(l, 1) as u64), b" Hz");
+    let ms = lasting(hz, wide_at(l, 5));
+    if e.voice_count() == 0 {
+        return say(ms, b": there are no voices\n");
+    }
+    say(ms, b"\n")
+}

@@ -1,0 +1,79 @@
+-- The text of each reply. Assumes nothing.
+use Prim.Native.Nat.{ℕ}
+use mathlib.Core.List.{List, [], _++_}
+use Rattle.error.specs.Told.{numberIn}
+use Rattle.tier.specs.Kinds.{byteOf}
+use Rattle.bank.specs.Banks.{payloadGiven, payloadPart}
+use Rattle.bank.specs.declared.BankSet.{BankSet}
+use Rattle.bank.specs.declared.EffectEntry.{EffectEntry}
+use Rattle.hex.specs.Hex.{wideAt, longAt, hexOf, newline}
+use Rattle.replay_cells.specs.Cells.{byteText, numberedText}
+use Rattle.mixer.specs.declared.Mixer.{Mixer}
+use Rattle.mixer.specs.Mixers.{voiceRead}
+use Rattle.mixer.specs.declared.VoiceRead.{VoiceRead}
+use Rattle.mixer.specs.declared.VoiceRead.the-variants as I
+use Rattle.config.specs.declared.AudioConfig.{AudioConfig}
+use Rattle.replay_dump.specs.Dumps.{policyNumber, modeNumber, voiceLine, dumpText}
+use Rattle.replay_calls.specs.declared.Reply.{Reply}
+use Rattle.replay_calls.specs.declared.Reply.the-variants as R
+
+-- a bad line "prints FFFF"
+abbrev pub badText : List ℕ
+badText = hexOf 4 0xFFFF ++ newline
+
+-- "number; if 00 also kind, flags, gain (2 digits each), param0, param1 (4 each), offset (8), length (8)"
+abbrev pub entryText : EffectEntry → List ℕ
+entryText e =
+    hexOf 2 0
+    ++ hexOf 2 (byteOf (e .kind))
+    ++ hexOf 2 (e .flags)
+    ++ hexOf 2 (e .«default_gain_q8»)
+    ++ hexOf 4 (e .param0)
+    ++ hexOf 4 (e .param1)
+    ++ hexOf 8 (e .offset)
+    ++ hexOf 8 (e .len)
+    ++ newline
+
+-- "offset (4), length (2) | number, then the part's bytes"
+unfoldable pub payloadText : BankSet → List ℕ → List ℕ → List ℕ
+payloadText bank l bytes =
+    numberedText 2 (numberIn (payloadGiven bank bytes (longAt l 1) (wideAt l 5)))
+    byteText
+    (payloadPart bank bytes (longAt l 1) (wideAt l 5))
+
+-- two numbers of two digits each
+abbrev pub twoText : ℕ → ℕ → List ℕ
+twoText a b = hexOf 2 a ++ hexOf 2 b ++ newline
+
+-- or of four
+abbrev pub wideTwoText : ℕ → ℕ → List ℕ
+wideTwoText a b = hexOf 4 a ++ hexOf 4 b ++ newline
+
+-- 65: "sample rate (8 digits), period (4), duty mode (2), master gain (2)"
+abbrev pub configText : AudioConfig → List ℕ
+configText c =
+    hexOf 8 (c .«sample_rate_hz»)
+    ++ hexOf 4 (c .«pwm_period»)
+    ++ hexOf 2 (modeNumber (c .«duty_mode»))
+    ++ hexOf 2 (c .«master_gain_q8»)
+    ++ newline
+
+-- 69: "the voice's line as in a dump, or an empty line where there is no such voice"
+abbrev pub voiceText : VoiceRead → List ℕ
+voiceText (I.Voice v) = voiceLine v
+voiceText I.None = newline
+
+-- "Each record that prints prints one line, unless said otherwise, its parts without a space between."
+abbrev pub replyText : Reply → List ℕ → List ℕ → Mixer → List ℕ
+replyText R.Bad l bytes m = badText
+replyText R.Nothing l bytes m = []
+replyText (R.Number n) l bytes m = hexOf 2 n ++ newline
+replyText (R.Two a b) l bytes m = twoText a b
+replyText (R.Wide n) l bytes m = hexOf 4 n ++ newline
+replyText (R.WideTwo a b) l bytes m = wideTwoText a b
+replyText (R.Entry e) l bytes m = entryText e
+replyText R.Payload l bytes m = payloadText (m .bank) l bytes
+replyText R.Dump l bytes m = dumpText m
+replyText R.Policy l bytes m = hexOf 2 (policyNumber (m .«stealing_policy»)) ++ newline
+replyText R.Configuration l bytes m = configText (m .config)
+replyText (R.Voice i) l bytes m = voiceText (voiceRead m i)

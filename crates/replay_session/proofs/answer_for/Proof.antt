@@ -1,0 +1,73 @@
+-- `replay_session::answer_for` meets its contract: each code's answer is the definition's.
+use borrow.Author.Needs.{needs}
+use mathlib.Core.Path.{_≡_, sym, _∙_}
+use lib.ListN.{length}
+use borrow.Author.Tests.{ne-eqb}
+use Rattle.replay_session.proofs.Done.{done}
+use Rattle.replay_session.proofs.answer_for.Statement.{statement}
+use Rattle.replay_session.proofs.answer_for.Tie as tie
+
+-- the buffer's length, which its type fixes
+full : (c : tie.After-byte-at) → length (c .before .before .before .before .before .before .before .before .args .out .now) ≡ 262144
+full c = search needs
+
+returns : tie.Need-returns
+returns c =
+    let t = c .before .before in
+    let e = sym (t .before .byte-at .ensures) ∙ t .if1 .taken in
+    (rw e (done (search needs) (c .open-answer .ensures)), rw e)
+
+returns-2 : tie.Need-returns-2
+returns-2 c =
+    let t = c .before .before .before in
+    let e = sym (t .before .before .byte-at .ensures) ∙ t .if2 .taken in
+    (rw e (done (search needs) (c .lend-answer .ensures .0)), rw e (c .lend-answer .ensures .1))
+
+call-answer-requires : tie.Need-call-answer-requires
+call-answer-requires c κs = (c .before .before .before .before .before .before .before .before .before .before .before .before .before .before .before .pre .0, search needs)
+
+returns-3 : tie.Need-returns-3
+returns-3 c =
+    let t = c .before .before .before .before in
+    let two = t .before .before in
+    let e = sym (two .before .before .byte-at .ensures) in
+    let n2 = ne-eqb _ _ (two .if2 .left) in
+    (rw (e, ne-eqb _ _ (two .before .if1 .left), n2, sym (t .before .is-call .ensures) ∙ t .if3 .taken) (done (search needs) (c .call-answer .ensures)), rw (e, n2))
+
+returns-4 : tie.Need-returns-4
+returns-4 c =
+    let t = c .before .before in
+    let three = t .before .before in
+    let two = three .before .before in
+    let e = sym (two .before .before .byte-at .ensures) in
+    let n2 = ne-eqb _ _ (two .if2 .left) in
+    (rw (e, ne-eqb _ _ (two .before .if1 .left), n2, sym (three .before .is-call .ensures) ∙ three .if3 .left, sym (t .before .is-fill .ensures) ∙ t .if4 .taken) (done (full (two .before .before)) (c .fill-answer .ensures)), rw (e, n2))
+
+returns-5 : tie.Need-returns-5
+returns-5 c =
+    let t = c .before .before in
+    let three = t .before .before in
+    let two = three .before .before in
+    let e = sym (two .before .before .byte-at .ensures) in
+    let n2 = ne-eqb _ _ (two .if2 .left) in
+    (rw (e, ne-eqb _ _ (two .before .if1 .left), n2, sym (three .before .is-call .ensures) ∙ three .if3 .left, sym (t .before .is-fill .ensures) ∙ t .if4 .left) (c .alone-answer .ensures), rw (e, n2))
+
+pub answer-for-spec : {M : Type 1} → statement M
+answer-for-spec =
+    tie.close
+    (tie.spec
+    (λ c κs. search needs)
+    (λ c κs. search needs)
+    (λ c κs. search needs)
+    (λ c κs. search needs)
+    returns
+    (λ c κs. search needs)
+    returns-2
+    (λ c κs. search needs)
+    call-answer-requires
+    returns-3
+    (λ c κs. search needs)
+    (λ c κs. search needs)
+    returns-4
+    (λ c κs. search needs)
+    returns-5)

@@ -30,7 +30,8 @@ enum birchjack_refusal {
     BIRCHJACK_EFFECT_NOT_FOUND = 8,    /* no entry has the id */
     BIRCHJACK_INVALID_EFFECT_KIND = 9, /* an entry's kind byte is above 5 */
     BIRCHJACK_NOT_CARRIED = 10,        /* an entry of a kind with stored samples */
-    BIRCHJACK_BAD_SUM = 11             /* a sum outside -2,048..2,032 */
+    BIRCHJACK_BAD_SUM = 11,            /* a sum outside -2,048..2,032 */
+    BIRCHJACK_LOW_RATE = 12            /* an evacuation pattern or its reader at a rate below 20 */
 };
 
 /* ---- numbers alone */
@@ -65,6 +66,20 @@ uint8_t birchjack_fade_step(uint16_t duration_ms, uint32_t sample_rate_hz);
  * `left`. 2 for a rate above 65,537. */
 uint8_t birchjack_envelope(uint16_t attack_ms, uint16_t decay_ms, uint8_t sustain_q8, uint16_t release_ms, uint32_t sample_rate_hz,
                            uint8_t *held, size_t held_len, uint8_t *left, size_t left_len);
+
+/* ---- the evacuation pattern, three pulses and a long pause (docs/STANDARD.md): 12 for a rate below 20, 2 for one above 65,537 */
+
+/* How many samples a cycle has. */
+uint8_t birchjack_evacuation_cycle(uint32_t sample_rate_hz, uint32_t *out);
+
+/* Whether it sounds at a sample, counted from its start: 1 or 0. */
+uint8_t birchjack_evacuation_sounds(uint32_t sample_rate_hz, uint64_t sample, uint8_t *out);
+
+/* The same for each cell, from the sample `first` on; it counts on past the last 64-bit number. */
+uint8_t birchjack_evacuation_fill(uint32_t sample_rate_hz, uint64_t first, uint8_t *out, size_t out_len);
+
+/* Whether a recording, a byte a sample, 1 on and 0 off, is one or more whole cycles, each phase within one tenth of its length: 1 or 0. */
+uint8_t birchjack_evacuation_reads(uint32_t sample_rate_hz, const uint8_t *recording, size_t recording_len, uint8_t *out);
 
 /* ---- a bank, which is set for the call: 2 for a rate above 65,537, 4 where its entries go past its bytes */
 

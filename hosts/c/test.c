@@ -68,6 +68,30 @@ static void duties(void) {
     CHECK(birchjack_fade_step(65535, 65538) == 4);
 }
 
+static void evacuation(void) {
+    uint8_t cells[80], b = 55;
+    uint32_t n = 55;
+    CHECK(birchjack_evacuation_cycle(20, &n) == 0 && n == 80);
+    CHECK(birchjack_evacuation_sounds(20, 9, &b) == 0 && b == 1);
+    CHECK(birchjack_evacuation_sounds(20, 10, &b) == 0 && b == 0);
+    CHECK(birchjack_evacuation_sounds(20, UINT64_MAX, &b) == 0 && b == 0); /* 15 modulo 80 */
+    CHECK(birchjack_evacuation_fill(20, 80, cells, 80) == 0);
+    for (uint64_t i = 0; i < 80; i++) {
+        CHECK(birchjack_evacuation_sounds(20, i, &b) == 0 && cells[i] == b);
+    }
+    CHECK(birchjack_evacuation_reads(20, cells, 80, &b) == 0 && b == 1);
+    CHECK(birchjack_evacuation_reads(20, cells, 50, &b) == 0 && b == 0);
+    CHECK(birchjack_evacuation_reads(20, cells, 0, &b) == 0 && b == 0);
+    cells[0] = 2;
+    CHECK(birchjack_evacuation_reads(20, cells, 80, &b) == 0 && b == 0);
+    b = 55;
+    n = 55;
+    CHECK(birchjack_evacuation_cycle(19, &n) == BIRCHJACK_LOW_RATE && n == 55);
+    CHECK(birchjack_evacuation_sounds(0, 0, &b) == BIRCHJACK_LOW_RATE && b == 55);
+    CHECK(birchjack_evacuation_fill(65538, 0, cells, 80) == BIRCHJACK_BAD_RATE && cells[0] == 2);
+    CHECK(birchjack_evacuation_reads(UINT32_MAX, cells, 80, &b) == BIRCHJACK_BAD_RATE && b == 55);
+}
+
 static void envelope(void) {
     static const uint8_t levels[8] = {63, 159, 231, 255, 192, 96, 24, 0};
     uint8_t held[8], left[4];
@@ -222,6 +246,7 @@ int main(void) {
     numbers();
     limits();
     duties();
+    evacuation();
     envelope();
     bank();
     requests();

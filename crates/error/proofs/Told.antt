@@ -20,8 +20,9 @@ refusal-number E.EffectNotFound = refl
 refusal-number E.InvalidEffectKind = refl
 refusal-number E.NotCarried = refl
 refusal-number E.BadSum = refl
+refusal-number E.LowRate = refl
 
-pub number-refusal : (n : ℕ) → 1 ≤ n → n ≤ 11 → numberOf (refusal n) ≡ n
+pub number-refusal : (n : ℕ) → 1 ≤ n → n ≤ 12 → numberOf (refusal n) ≡ n
 number-refusal zero h k = absurd (lt-irrefl 0 (omega arith))
 number-refusal (suc zero) h k = refl
 number-refusal (suc (suc zero)) h k = refl
@@ -34,7 +35,8 @@ number-refusal (suc (suc (suc (suc (suc (suc (suc (suc zero)))))))) h k = refl
 number-refusal (suc (suc (suc (suc (suc (suc (suc (suc (suc zero))))))))) h k = refl
 number-refusal (suc (suc (suc (suc (suc (suc (suc (suc (suc (suc zero)))))))))) h k = refl
 number-refusal (suc (suc (suc (suc (suc (suc (suc (suc (suc (suc (suc zero))))))))))) h k = refl
-number-refusal (suc (suc (suc (suc (suc (suc (suc (suc (suc (suc (suc (suc n)))))))))))) h k = absurd (lt-irrefl 0 (omega arith))
+number-refusal (suc (suc (suc (suc (suc (suc (suc (suc (suc (suc (suc (suc zero)))))))))))) h k = refl
+number-refusal (suc (suc (suc (suc (suc (suc (suc (suc (suc (suc (suc (suc (suc n))))))))))))) h k = absurd (lt-irrefl 0 (omega arith))
 
 -- an answer that tells a valid t
 pub answered : {A R : Type 0} {told : R → Told A} {Valid : A → Type 0} {t : Told A} {r : R} → told r ≡ t → ValidTold Valid t → Answered told Valid t r

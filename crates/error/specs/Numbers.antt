@@ -15,3 +15,5 @@ numberOf E.EffectNotFound = 8
 numberOf E.InvalidEffectKind = 9
 numberOf E.NotCarried = 10
 numberOf E.BadSum = 11
+-- document 02: "Numbers that requests add join 01's table"
+numberOf E.LowRate = 12

@@ -1,4 +1,5 @@
-// Why a call is turned down. The source's names where it has one; the others are added by the port (document 01's table).
+// Why a call is turned down. The source's names where it has one; the others are added by the port (document 01's table), and by
+// document 02's requests.
 ghost use mathlib.Core.Path.{_≡_};
 ghost use Rattle.error.specs.Numbers.{numberOf};
 
@@ -14,6 +15,7 @@ pub enum AudioError {
     InvalidEffectKind,
     NotCarried,
     BadSum,
+    LowRate,
 }
 
 impl AudioError {
@@ -32,6 +34,7 @@ impl AudioError {
             AudioError::InvalidEffectKind => 9,
             AudioError::NotCarried => 10,
             AudioError::BadSum => 11,
+            AudioError::LowRate => 12,
         }
     }
 }

@@ -2,10 +2,12 @@
 --     Told      a value or a refusal, as a number and cells
 --     Leaves    numbers alone
 --     Levels    an envelope alone
+--     Signals   the evacuation pattern and its reader
 --     Banks     a bank that is set for one call
 --     Plays     an engine that lives for one call
 pub mod Told
 pub mod Leaves
 pub mod Levels
+pub mod Signals
 pub mod Banks
 pub mod Plays

@@ -4,3 +4,4 @@ mod banks;
 mod leaves;
 mod levels;
 mod plays;
+mod signals;

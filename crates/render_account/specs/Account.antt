@@ -26,7 +26,8 @@ whyText n =
     (cond (eqb n 9) (words "an entry is of no known kind")
     (cond (eqb n 10) (words "the entry is of a kind that is not carried")
     (cond (eqb n 11) (words "a sum outside the limiter's range")
-    (words "a number without words")))))))))))
+    (cond (eqb n 12) (words "a rate below 20 Hz")
+    (words "a number without words"))))))))))))
 
 -- the end of a line: nothing more where a call was accepted
 unfoldable pub endText : ℕ → List ℕ

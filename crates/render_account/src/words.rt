@@ -29,6 +29,7 @@ fn why(t: Text, number: u8) -> Text
         9 => say(t, b"an entry is of no known kind"),
         10 => say(t, b"the entry is of a kind that is not carried"),
         11 => say(t, b"a sum outside the limiter's range"),
+        12 => say(t, b"a rate below 20 Hz"),
         _ => say(t, b"a number without words"),
     }
 }

@@ -9,8 +9,9 @@ use Rattle.replay_leaves.specs.Replies.{replyOf}
 use Rattle.replay_leaves.specs.Runs.{levelsText, stateText, dutiesText}
 use Rattle.replay_leaves.specs.Sounds.{sourceText, restoredText}
 use Rattle.replay_leaves.specs.Voices.{voiceText}
+use Rattle.replay_patterns.specs.Records.{patternText, readerText}
 use Rattle.replay_leaves.specs.declared.Reply.{Reply}
-use Rattle.replay_leaves.specs.declared.Reply.the-variants.{Bad, Word, Levels, State, Duties, Source, Voice, Restored}
+use Rattle.replay_leaves.specs.declared.Reply.the-variants.{Bad, Word, Levels, State, Duties, Source, Voice, Restored, Pattern, Recording}
 use Rattle.replay_leaves.specs.declared.Answered.{Answered}
 
 -- a bad line "prints FFFF"
@@ -23,6 +24,8 @@ textOf Duties l = dutiesText l
 textOf Source l = sourceText l
 textOf Voice l = voiceText l
 textOf Restored l = restoredText l
+textOf Pattern l = patternText l
+textOf Recording l = readerText l
 
 unfoldable pub replyText : List ℕ → List ℕ
 replyText l = textOf (replyOf l) l
@@ -37,6 +40,8 @@ goesOn Duties = true
 goesOn Source = true
 goesOn Voice = true
 goesOn Restored = true
+goesOn Pattern = true
+goesOn Recording = true
 
 -- the text stands before the rest of what the buffer held
 pub record Answers (l before after : List ℕ) (r : Answered) : Type 0 where

@@ -21,7 +21,7 @@ use Rattle.tier.specs.declared.KindRead.{KindRead}
 use Rattle.tier.specs.declared.KindRead.the-variants.{Kind, Unknown}
 use Rattle.hex.specs.Hex.{allDigits, byteAt, wideAt, longAt}
 use Rattle.replay_leaves.specs.declared.Reply.{Reply}
-use Rattle.replay_leaves.specs.declared.Reply.the-variants.{Bad, Word, Levels, State, Duties, Source, Voice, Restored}
+use Rattle.replay_leaves.specs.declared.Reply.the-variants.{Bad, Word, Levels, State, Duties, Source, Voice, Restored, Pattern, Recording}
 
 -- fields with a sign, in two's complement
 abbrev pub sampleAt : List ℕ → ℕ → ℤ
@@ -139,6 +139,14 @@ voiceReply l =
 unfoldable pub restoredReply : List ℕ → Reply
 restoredReply l = cond (ltb (byteAt l 9) 4 && leb (wideAt l 10) 16000) Restored Bad
 
+-- 80, evacuation pattern: rate (4), first sample (4), "samples (2, at most 2,048)"
+unfoldable pub patternReply : List ℕ → Reply
+patternReply l = cond (leb (wideAt l 9) 2048) Pattern Bad
+
+-- 81, evacuation reader: rate (4), then any number of bytes
+unfoldable pub recordingReply : List ℕ → Reply
+recordingReply l = cond (ltb (length l) 10) Bad (cond (eqb (length l % 2) 1) Bad Recording)
+
 -- the records by their code, each with its length; any other code is bad
 abbrev pub replyFor : ℕ → List ℕ → Reply
 replyFor code l =
@@ -165,7 +173,9 @@ replyFor code l =
     (cond (eqb code 0x60) (sized n 17 (sourceReply l))
     (cond (eqb code 0x61) (sized n 28 (voiceReply l))
     (cond (eqb code 0x6A) (sized n 11 (restoredReply l))
-    Bad)))))))))))))))))))))
+    (cond (eqb code 0x80) (sized n 10 (patternReply l))
+    (cond (eqb code 0x81) (recordingReply l)
+    Bad)))))))))))))))))))))))
 
 -- "No good line is longer than 8,194 digits"; the first byte is the code
 unfoldable pub replyOf : List ℕ → Reply

@@ -1,10 +1,11 @@
-// Answers to a script's lines: records 40 to 48 of the replay format and our own 50 to 6A.
+// Answers to a script's lines: records 40 to 48 of the replay format and our own 50 to 6A and 80, 81.
 ghost use mathlib.Core.Path.{_≡_};
-ghost use Rattle.replay_leaves.specs.Replies.{sized, dutiesReply, replyFor, replyOf};
+ghost use Rattle.replay_leaves.specs.Replies.{sized, dutiesReply, replyFor, replyOf, patternReply, recordingReply};
 ghost use Rattle.replay_leaves.specs.Answers.{Answers};
 use hex::all_digits;
 use hex::byte_at;
 use hex::put_line;
+use hex::wide_at;
 
 mod leaves;
 mod outputs;
@@ -22,6 +23,8 @@ pub enum Reply {
     Source,
     Voice,
     Restored,
+    Pattern,
+    Recording,
 }
 
 // How many bytes the answer has, and whether the run goes on.
@@ -59,6 +62,31 @@ fn duties_reply(l: &[u8]) -> Reply
     }
 }
 
+// 80 has at most 2,048 samples.
+fn pattern_reply(l: &[u8]) -> Reply
+    ensures { λ r. ⌜ r ≡ patternReply (now (l .entry)) ⌝ }
+{
+    if wide_at(l, 9) <= 2048 {
+        Reply::Pattern
+    } else {
+        Reply::Bad
+    }
+}
+
+// 81 has any number of bytes.
+fn recording_reply(l: &[u8]) -> Reply
+    ensures { λ r. ⌜ r ≡ recordingReply (now (l .entry)) ⌝ }
+{
+    let n = l.len();
+    if n < 10 {
+        return Reply::Bad;
+    }
+    if n % 2 == 1 {
+        return Reply::Bad;
+    }
+    Reply::Recording
+}
+
 // By the code. Each reader is total, so a record's length is looked at last.
 fn reply_for(code: u8, l: &[u8]) -> Reply
     ensures { λ r. ⌜ r ≡ replyFor code (now (l .entry)) ⌝ }
@@ -87,6 +115,8 @@ fn reply_for(code: u8, l: &[u8]) -> Reply
         0x60 => sized(n, 17, sounds::source_reply(l)),
         0x61 => sized(n, 28, voices::voice_reply(l)),
         0x6A => sized(n, 11, sounds::restored_reply(l)),
+        0x80 => sized(n, 10, pattern_reply(l)),
+        0x81 => recording_reply(l),
         _ => Reply::Bad,
     }
 }
@@ -144,6 +174,14 @@ pub fn answer(line: &[u8], out: &mut [u8; 262144]) -> Answered
         }
         Reply::Restored => {
             let len = sounds::restored(line, out);
+            Answered { len, more: true }
+        }
+        Reply::Pattern => {
+            let len = replay_patterns::pattern(line, out);
+            Answered { len, more: true }
+        }
+        Reply::Recording => {
+            let len = replay_patterns::reader(line, out);
             Answered { len, more: true }
         }
     }

@@ -10,6 +10,7 @@
 struct Page;
 
 mod bank;
+pub mod evacuation;
 mod player;
 pub mod raw;
 mod refusal;

@@ -21,6 +21,20 @@ unsafe extern "C" {
         left: *mut u8,
         left_len: usize,
     ) -> u8;
+    pub fn birchjack_evacuation_cycle(sample_rate_hz: u32, out: *mut u32) -> u8;
+    pub fn birchjack_evacuation_sounds(sample_rate_hz: u32, sample: u64, out: *mut u8) -> u8;
+    pub fn birchjack_evacuation_fill(
+        sample_rate_hz: u32,
+        first: u64,
+        out: *mut u8,
+        out_len: usize,
+    ) -> u8;
+    pub fn birchjack_evacuation_reads(
+        sample_rate_hz: u32,
+        recording: *const u8,
+        recording_len: usize,
+        out: *mut u8,
+    ) -> u8;
     pub fn birchjack_find(
         bytes: *const u8,
         bytes_len: usize,

@@ -17,11 +17,12 @@ pub enum Refusal {
     InvalidEffectKind = 9,
     NotCarried = 10,
     BadSum = 11,
+    LowRate = 12,
 }
 
 impl Refusal {
     /// Every refusal, in the order of its number.
-    pub const ALL: [Refusal; 11] = [
+    pub const ALL: [Refusal; 12] = [
         Refusal::VoiceCount,
         Refusal::BadRate,
         Refusal::BadPeriod,
@@ -33,6 +34,7 @@ impl Refusal {
         Refusal::InvalidEffectKind,
         Refusal::NotCarried,
         Refusal::BadSum,
+        Refusal::LowRate,
     ];
 
     /// Document 01's number.
@@ -44,7 +46,7 @@ impl Refusal {
     ///
     /// # Panics
     ///
-    /// Above 11, which no call answers (`error/specs/Numbers.antt`).
+    /// Above 12, which no call answers (`error/specs/Numbers.antt`).
     pub(crate) fn read(number: u8) -> Result<(), Refusal> {
         match number {
             0 => Ok(()),
@@ -67,6 +69,7 @@ impl fmt::Display for Refusal {
             Refusal::InvalidEffectKind => "an entry's kind byte is above 5",
             Refusal::NotCarried => "an entry of a kind with stored samples",
             Refusal::BadSum => "a sum outside -2,048..2,032",
+            Refusal::LowRate => "an evacuation pattern or its reader at a rate below 20",
         })
     }
 }

@@ -71,6 +71,60 @@ fn numbers_that_may_be_refused() {
 }
 
 #[test]
+fn the_evacuation_pattern() {
+    use birchjack::evacuation::{cycle, fill, reads, sounds};
+    assert_eq!(cycle(20), Ok(80));
+    assert_eq!(cycle(65_537), Ok(262_145));
+    assert_eq!(
+        [0, 9, 10, 49, 79, 80].map(|n| sounds(20, n)),
+        [true, true, false, true, false, true].map(Ok)
+    );
+    for rate in [0, 19] {
+        assert_eq!(cycle(rate), Err(Refusal::LowRate));
+        assert_eq!(reads(rate, &[]), Err(Refusal::LowRate));
+    }
+    for rate in [65_538, u32::MAX] {
+        assert_eq!(cycle(rate), Err(Refusal::BadRate));
+        assert_eq!(reads(rate, &[]), Err(Refusal::BadRate));
+    }
+
+    // two cycles at once are two cycles in parts, and are read back
+    let mut whole = [9; 160];
+    assert_eq!(fill(20, 80, &mut whole), Ok(()));
+    let (mut first, mut second) = ([9; 37], [9; 123]);
+    assert_eq!(fill(20, 0, &mut first), Ok(()));
+    assert_eq!(fill(20, 37, &mut second), Ok(()));
+    assert_eq!([&first[..], &second[..]].concat(), whole);
+    assert_eq!(reads(20, &whole), Ok(true));
+    assert_eq!(reads(20, &whole[..80]), Ok(true));
+    for bad in [&whole[..0], &whole[..1], &whole[..50], &whole[1..81]] {
+        assert_eq!(reads(20, bad), Ok(false));
+    }
+    let mut above = whole;
+    above[3] = 2;
+    assert_eq!(reads(20, &above), Ok(false));
+
+    // a run goes on past the last 64-bit count: 2^64 - 1 is 15 modulo 80
+    let mut last = [9; 80];
+    assert_eq!(fill(20, u64::MAX, &mut last), Ok(()));
+    assert_eq!(last, whole[15..95]);
+    assert_eq!(fill(19, 0, &mut last), Err(Refusal::LowRate));
+    assert_eq!(last, whole[15..95]);
+    assert_eq!(sounds(20, u64::MAX), Ok(false));
+    assert_eq!(sounds(20, u64::MAX - 6), Ok(true));
+
+    // a million bytes are 12,500 cycles; the last pause may be three samples shorter
+    let mut million = vec![9; 1_000_000];
+    assert_eq!(fill(20, 0, &mut million), Ok(()));
+    assert_eq!(reads(20, &million), Ok(true));
+    assert_eq!(reads(20, &million[..999_997]), Ok(true));
+    assert_eq!(reads(20, &million[..999_996]), Ok(false));
+    million[999_999] = 2;
+    assert_eq!(reads(20, &million), Ok(false));
+    assert_eq!(reads(8_000, &vec![1; 1_000_000]), Ok(false));
+}
+
+#[test]
 fn an_envelope_alone() {
     let e = Envelope {
         attack_ms: 4,

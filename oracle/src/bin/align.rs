@@ -118,9 +118,9 @@ const LIKE_BAD: [Form; 3] = [
 ];
 
 /// The lines after the first: each voice of a dump; and one for the envelope records, the duty mapper, a source or a voice
-/// alone, where they are not refused.
+/// alone and the evacuation pattern, where they are not refused.
 fn more_lines(record: &[u8], first: &[u8]) -> usize {
-    let codes: [&[u8]; 6] = [b"48", b"57", b"58", b"60", b"61", b"6A"];
+    let codes: [&[u8]; 7] = [b"48", b"57", b"58", b"60", b"61", b"6A", b"80"];
     if record.starts_with(b"30") && first.len() > 16 {
         hex(&first[..16]) as usize
     } else if first == b"00" && codes.iter().any(|code| record.starts_with(code)) {

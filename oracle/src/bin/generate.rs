@@ -26,6 +26,8 @@ mod recorded;
 mod script;
 #[path = "generate/sets.rs"]
 mod sets;
+#[path = "generate/signals.rs"]
+mod signals;
 #[path = "generate/sources.rs"]
 mod sources;
 

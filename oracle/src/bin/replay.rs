@@ -1,5 +1,5 @@
-//! Reads a script on standard input and prints the Rust original's answers: the records of the replay format and our own 50
-//! to 6A (docs/REPLAY.md). A bad line prints FFFF and ends the run.
+//! Reads a script on standard input and prints the Rust original's answers: the records of the replay format, our own 50 to
+//! 6A, and 80 and 81, which the original has not (docs/REPLAY.md). A bad line prints FFFF and ends the run.
 
 #[path = "replay/answers.rs"]
 mod answers;
@@ -11,6 +11,8 @@ mod fields;
 mod frames;
 #[path = "replay/rules.rs"]
 mod rules;
+#[path = "replay/signals.rs"]
+mod signals;
 #[path = "replay/sounds.rs"]
 mod sounds;
 #[path = "replay/steps.rs"]
@@ -31,7 +33,7 @@ const LEND: u8 = 0x12;
 type Answer = fn(&mut Fields, &mut Answers) -> Answered;
 
 /// The records that need no engine: code, least and greatest number of bytes after it, and what answers it.
-const ALONE: [(u8, usize, usize, Answer); 22] = [
+const ALONE: [(u8, usize, usize, Answer); 24] = [
     (0x40, 2, 2, steps::gain),
     (0x41, 3, 3, steps::lerp),
     (0x42, 4, 4, steps::limiter),
@@ -54,6 +56,8 @@ const ALONE: [(u8, usize, usize, Answer); 22] = [
     (0x60, 17, 17, sounds::source_alone),
     (0x61, 28, 28, sounds::voice_alone),
     (0x6A, 11, 11, sounds::oscillator_from_bits),
+    (0x80, 10, 10, signals::pattern),
+    (0x81, 4, 4_096, signals::reader),
 ];
 
 fn main() -> io::Result<()> {

@@ -50,6 +50,16 @@ returns-8 c =
     let t = c .before .before in
     done (search needs) (sym (t .before .before .reply-of .ensures) ∙ t .enum-told7 .given .1) (c .restored .ensures)
 
+returns-9 : tie.Need-returns-9
+returns-9 c =
+    let t = c .before .before in
+    done (search needs) (sym (t .before .before .reply-of .ensures) ∙ t .enum-told8 .given .1) (c .pattern .ensures)
+
+returns-10 : tie.Need-returns-10
+returns-10 c =
+    let t = c .before .before in
+    done (search needs) (sym (t .before .before .reply-of .ensures) ∙ t .enum-told9 .given .1) (c .reader .ensures)
+
 pub answer-spec : {M : Type 1} → statement M
 answer-spec =
     tie.close
@@ -72,6 +82,10 @@ answer-spec =
     (λ c κs. search needs)
     (λ c. search needs)
     (λ c κs. search needs)
+    (λ c. search needs)
+    (λ c κs. search needs)
+    (λ c. search needs)
+    (λ c κs. search needs)
     returns
     returns-2
     returns-3
@@ -79,4 +93,6 @@ answer-spec =
     returns-5
     returns-6
     returns-7
-    returns-8)
+    returns-8
+    returns-9
+    returns-10)

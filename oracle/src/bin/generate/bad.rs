@@ -4,10 +4,11 @@ use crate::draw::Draw;
 use crate::enginebad::{ENGINE, FRAMES};
 use crate::random::{self, RECORDS};
 use crate::script::{Line, Script, mapper};
+use crate::signals;
 
 const LONGEST: usize = 8_194;
 
-const BAD: [fn(&mut Draw) -> Line; 8] = [
+const BAD: [fn(&mut Draw) -> Line; 9] = [
     unknown_code,
     short,
     long,
@@ -16,6 +17,7 @@ const BAD: [fn(&mut Draw) -> Line; 8] = [
     |_| Line::new(),
     over_long,
     bad_mode,
+    too_many_samples,
 ];
 
 pub fn print(script: &mut Script, seed: u64, count: u32) {
@@ -47,23 +49,29 @@ fn unknown_code(draw: &mut Draw) -> Line {
     line
 }
 
-/// Cut anywhere. A mapper record may have any number of samples, so it is cut inside its first fields.
+/// The digits of a record's first fields where any number of bytes may come after them: samples of a mapper, a recording.
+fn open_ended(line: &Line) -> Option<u32> {
+    match &line[..2] {
+        b"57" => Some(16),
+        b"81" => Some(10),
+        _ => None,
+    }
+}
+
+/// Cut anywhere, or inside its first fields where the rest may be of any length.
 fn short(draw: &mut Draw) -> Line {
     let mut line = random::any(draw);
-    let below = match line.starts_with(b"57") {
-        true => 16,
-        false => line.len() as u32,
-    };
+    let below = open_ended(&line).unwrap_or(line.len() as u32);
     line.truncate(1 + draw.below(below - 1) as usize);
     line
 }
 
-/// With one digit or more after its end. A mapper record is made longer by an odd number of digits.
+/// With one digit or more after its end; with an odd number of them where it may be of any length.
 fn long(draw: &mut Draw) -> Line {
     let mut line = random::any(draw);
-    let more = match line.starts_with(b"57") {
-        true => 1 + 2 * draw.below(3),
-        false => 1 + draw.below(20),
+    let more = match open_ended(&line) {
+        Some(_) => 1 + 2 * draw.below(3),
+        None => 1 + draw.below(20),
     };
     line.extend((0..more).map(|_| b'0'));
     line
@@ -103,4 +111,11 @@ fn over_long(draw: &mut Draw) -> Line {
 fn bad_mode(draw: &mut Draw) -> Line {
     let beyond = 3 + draw.below(253) as u8;
     mapper(draw.pick(&[3, 255, beyond]), draw.u16(), 0, &[1, -1])
+}
+
+/// A run of the evacuation pattern of more than 2,048 samples, at any rate.
+fn too_many_samples(draw: &mut Draw) -> Line {
+    let beyond = 2_049 + draw.below(63_487) as u16;
+    let (rate, first) = (draw.rate(), draw.u32());
+    signals::pattern(rate, first, draw.pick(&[2_049, 65_535, beyond]))
 }

@@ -2,6 +2,7 @@
 
 use crate::draw::Draw;
 use crate::script::{Envelope, Line, i8, i32, mapper, record, u8, u16, u32};
+use crate::signals;
 use crate::sources;
 
 type Drawn = fn(&mut Draw) -> Line;
@@ -9,7 +10,7 @@ type Drawn = fn(&mut Draw) -> Line;
 pub const MOST_SAMPLES: u32 = 4_089;
 
 /// Every record that is read today.
-pub const RECORDS: [(u8, Drawn); 22] = [
+pub const RECORDS: [(u8, Drawn); 24] = [
     (0x40, |d| record(0x40, &[i8(d.i8()), u8(d.u8())])),
     (0x41, |d| {
         record(0x41, &[i8(d.i8()), i8(d.i8()), u8(d.u8())])
@@ -36,6 +37,8 @@ pub const RECORDS: [(u8, Drawn); 22] = [
     (0x60, sources::any_source),
     (0x61, sources::any_voice),
     (0x6A, sources::any_restored),
+    (0x80, signals::any_pattern),
+    (0x81, signals::any_reader),
 ];
 
 pub fn any(draw: &mut Draw) -> Line {

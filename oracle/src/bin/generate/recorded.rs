@@ -7,6 +7,7 @@ use crate::engine;
 use crate::random;
 use crate::script::{Script, i8, mapper, u8, u16, u32};
 use crate::sets;
+use crate::signals;
 use crate::sources;
 
 /// With an engine's records, with or without frames, where they are asked for.
@@ -25,6 +26,7 @@ pub fn print(script: &mut Script, frames: Option<bool>) {
     mappers(script);
     envelopes(script);
     sources::recorded(script);
+    signals::recorded(script);
     let mut draw = Draw::modest(1);
     for _ in 0..5_000 {
         script.add(&random::any(&mut draw));

@@ -3,6 +3,7 @@
 use crate::edges::{self, HALVES, RATES, SAMPLES, WORDS};
 use crate::random::MOST_SAMPLES;
 use crate::script::{Envelope, Script, i8, i32, mapper as mapper_record, u8, u16, u32};
+use crate::signals;
 use crate::sources;
 use oracle::fixed::db_to_q8;
 
@@ -11,7 +12,7 @@ pub const FLOATS: u32 = 2_000_000;
 
 type Print = fn(&mut Script, u32);
 
-pub const SETS: [(&str, Print); 18] = [
+pub const SETS: [(&str, Print); 20] = [
     ("gain", |script, _| gain(script)),
     ("sine", |script, _| bytes(script, 0x45)),
     ("pan", |script, _| bytes(script, 0x43)),
@@ -33,6 +34,8 @@ pub const SETS: [(&str, Print); 18] = [
     ("sources", |script, _| sources::sources(script)),
     ("voices", |script, _| sources::voices(script)),
     ("restored", |script, _| sources::restored(script)),
+    ("pattern", |script, _| signals::patterns(script)),
+    ("reader", |script, _| signals::readers(script)),
 ];
 
 /// Nothing where there is no set of that name.

@@ -1,5 +1,5 @@
-//! Document 01's refusals. The original decides wherever it has the refusal itself; the ones that the port adds (1, 2, 3, 7,
-//! 10 and 11) are found here, in their place among the others.
+//! Document 01's refusals, and those that document 02 adds. The original decides wherever it has the refusal itself; the ones that
+//! the port adds (1, 2, 3, 7, 10, 11 and 12) are found here, in their place among the others.
 
 use oracle::bank::{EffectEntry, SoundBank};
 use oracle::engine::AudioEngine;
@@ -18,9 +18,11 @@ pub const NOT_FOUND: i64 = 8;
 pub const INVALID_KIND: i64 = 9;
 pub const NOT_CARRIED: i64 = 10;
 pub const BAD_SUM: i64 = 11;
+pub const LOW_RATE: i64 = 12;
 
 pub const MOST_VOICES: u8 = 16;
 pub const HIGHEST_RATE: u32 = 65_537;
+pub const LEAST_SIGNAL_RATE: u32 = 20;
 pub const LEAST_PERIOD: u16 = 2;
 pub const SUMS: std::ops::RangeInclusive<i32> = -2_048..=2_032;
 

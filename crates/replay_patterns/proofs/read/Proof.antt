@@ -1,0 +1,40 @@
+-- `replay_patterns::read` meets its contract: the cells lent are the bytes that were stored.
+use borrow.Author.Needs.{needs}
+use mathlib.Core.Path.{_≡_, sym, ap, _∙_}
+use mathlib.Core.List.{List}
+use Prim.Native.Nat.{ℕ, suc, _≤_}
+use native.Mathlib.Omega.{arith}
+use lib.ListN.{length, take, drop, length-replicate}
+use lib.Seq.{sets, length-sets, length-take-le, take-at}
+use Rattle.laws.proofs.Stores.{length-cells, sets-front}
+use Rattle.hex.specs.Hex.{byteAt}
+use Rattle.evacuation.specs.Reader.{wholeCycles}
+use Rattle.replay_patterns.specs.Records.{bytesFrom}
+use Rattle.replay_patterns.proofs.read.Statement.{statement}
+use Rattle.replay_patterns.proofs.read.Tie as tie
+
+-- what was stored at the front is what is taken there
+taken : (before xs : List ℕ) (n : ℕ) → length xs ≡ n → n ≤ length before → take n (sets before 0 xs) ≡ xs
+taken before xs n e h = rw (sets-front before xs n e h) (take-at xs (drop n before) n e)
+
+full : (c : tie.After-recorded) → length (c .recorded .last .1 .1 .0) ≡ 4092
+full c = ap length (c .recorded .ensures) ∙ simp (length-sets, length-replicate)
+
+fits : (c : tie.After-recorded) → c .before .before .before .args .n ≤ length (c .recorded .last .1 .1 .0)
+fits c = rw (full c) (c .before .before .before .pre .1)
+
+slice-aggregate-whole-cycles : tie.Need-slice-aggregate-whole-cycles
+slice-aggregate-whole-cycles c = sym (length-take-le (c .before .before .before .before .args .n) (c .before .recorded .last .1 .1 .0) (fits (c .before)))
+
+returns : tie.Need-returns
+returns c =
+    let d = c .before .before in
+    let a = d .before .before .before in
+    let l = a .args .l .now in
+    c .whole-cycles .ensures
+    ∙ ap (wholeCycles (a .args .r .«sample_rate_hz»))
+    (rw (d .recorded .ensures)
+    (taken _ (bytesFrom l (a .args .n)) (a .args .n) (length-cells suc (λ (k : ℕ). byteAt l k) (a .args .n) 5) (rw length-replicate (a .pre .1))))
+
+pub read-spec : {M : Type 1} → statement M
+read-spec = tie.close (tie.spec (λ c κs. search needs) fits slice-aggregate-whole-cycles (λ c κs. search needs) returns)

@@ -1,0 +1,44 @@
+-- `replay_patterns::recorded` meets its contract: what is stored so far is the first i bytes. The measure is the stores left.
+use mathlib.Core.Path.{_≡_}
+use Prim.Native.Nat.{ℕ, suc, _+_, _-_, _≤_}
+use native.Mathlib.Omega.{arith}
+use Rattle.laws.proofs.Stores.{Wrote, wrote-none, front-one}
+use Rattle.hex.specs.Hex.{byteAt}
+use Rattle.replay_patterns.proofs.recorded.Statement.{statement}
+use Rattle.replay_patterns.proofs.recorded.Tie as tie
+
+abbrev Inv-loop : tie.InvT-loop
+Inv-loop l n cells₀ i₀ cells i = (i ≤ n) × Wrote suc (λ (k : ℕ). byteAt l k) 5 cells₀ 0 i (5 + i) cells
+
+abbrev μ-loop : tie.MeasureT-loop
+μ-loop l n cells₀ i₀ cells i = n - i
+
+loop-holds : tie.Need-loop-holds Inv-loop μ-loop
+loop-holds c = (omega arith, wrote-none _ _)
+
+loop-again : tie.Need-loop-again Inv-loop μ-loop
+loop-again c =
+    let l = c .before .before in
+    let e : 5 + (l .loop .i + 1) ≡ suc (5 + l .loop .i) = omega arith in
+    (omega (arith, c .before .loop-test .taken), rw (c .byte-at .ensures, e) (front-one _ _ (l .loop .inv .1)))
+
+returns : tie.Need-returns Inv-loop μ-loop
+returns c =
+    let l = c .before in
+    let e : l .loop .i ≡ l .before .before .args .n = omega (arith, l .loop .inv .0, c .loop-test .left) in
+    rw (← e) (l .loop .inv .1 .stored)
+
+pub recorded-spec : {M : Type 1} → statement M
+recorded-spec =
+    tie.close
+    (tie.spec
+    Inv-loop
+    μ-loop
+    loop-holds
+    (λ c. omega (arith, c .loop-test .taken))
+    (λ c κs. tt)
+    (λ c. omega (arith, c .before .loop-test .taken, c .before .before .before .before .pre))
+    (λ c. omega arith)
+    (λ c. omega arith)
+    loop-again
+    returns)

@@ -2,7 +2,7 @@
 # make test          all that the gate runs
 # make differential  the long comparison with the Rust original
 # make edits         every must-fail edit, those of the gate and the others
-# make pictures      docs/pictures, drawn anew from the program's answers
+# make pictures      docs/pictures, and the table of docs/LENGTHS.md, made anew from the program's answers
 # make hosts         the static library, tested from C and from Rust
 # make mutants       the mutation run (docs/MUTANTS.md)
 # make bench         the comparison with it in speed (docs/SPEED.md); it takes minutes and belongs to no gate
@@ -37,6 +37,7 @@ mutants:
 pictures:
 	tools/prove replay
 	tools/pictures
+	tools/bells
 
 oracle-tests:
 	cargo test --release --offline --locked --quiet --manifest-path oracle/Cargo.toml --target-dir oracle/target

@@ -60,6 +60,18 @@ uint8_t birchjack_duty_of(int8_t sample, uint16_t period, uint16_t *out);
 /* What a fade gains with each frame, of 255. The product duration_ms * sample_rate_hz is taken modulo 2^32. */
 uint8_t birchjack_fade_step(uint16_t duration_ms, uint32_t sample_rate_hz);
 
+/* ---- lengths in samples with what is left over, so that many in a row do not drift (docs/LENGTHS.md): whole samples, then the remainder in
+ * thousandths of a sample, below 1,000. 2 for a rate above 65,537. */
+
+/* A length: ms * sample_rate_hz is 1000 * samples + remainder. */
+uint8_t birchjack_length(uint16_t ms, uint32_t sample_rate_hz, uint32_t (*out)[2]);
+
+/* The same with the remainder of the one before, or any other number of thousandths, added before it is divided. */
+uint8_t birchjack_length_carrying(uint16_t ms, uint32_t sample_rate_hz, uint32_t remainder, uint32_t (*out)[2]);
+
+/* The total of a list, in one call: what the calls above give in turn, begun with remainder 0. */
+uint8_t birchjack_total_length(const uint16_t *lengths, size_t lengths_len, uint32_t sample_rate_hz, uint64_t (*out)[2]);
+
 /* ---- an envelope alone */
 
 /* A triggered envelope's level after each tick: as many as there are cells in `held`, then it is released, and as many as there are in

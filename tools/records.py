@@ -1,4 +1,4 @@
-"""Records for tools/pictures and what the replay program answers to them (docs/REPLAY.md and the page that it names)."""
+"""Records for tools/pictures and tools/bells, and what the replay program answers to them (docs/REPLAY.md and the page that it names)."""
 import subprocess
 from pathlib import Path
 
@@ -10,7 +10,7 @@ SOURCE = (1, 4, 2, 1, 4)
 WIDTHS = {
     "10": (1, 4, 2, 1, 1, 1), "11": (4, 2), "13": (2, *ENVELOPE, 1), "14": (2, 2, *ENVELOPE), "21": (2,), "30": (),
     "48": (*ENVELOPE, 4, 2, 2), "60": (*SOURCE, 3, 2), "61": (*SOURCE, *ENVELOPE, 1, 1, 1, 3, 1, 2),
-    "80": (4, 4, 2), "81": (4,),
+    "80": (4, 4, 2), "81": (4,), "84": (2, 4), "85": (2, 4, 4),
 }
 TONE, POLYBLEP, FM = 1, 2, 3
 PHASES = ["attack", "decay", "sustain", "release", "idle"]
@@ -25,11 +25,11 @@ def replay(script):
     """The lines that the program answers to a script, in which no record is bad."""
     program = ROOT / "target/bin/replay"
     if not program.exists():
-        raise SystemExit("pictures: the program target/bin/replay is not built; `make` builds it")
+        raise SystemExit("records: the program target/bin/replay is not built; `make` builds it")
     run = subprocess.run([program], input="\n".join(script) + "\n", capture_output=True, text=True, check=True)
     answers = run.stdout.splitlines()
     if "FFFF" in answers:
-        raise SystemExit("pictures: the program calls a record bad")
+        raise SystemExit("records: the program calls a record bad")
     return answers
 
 
@@ -37,7 +37,7 @@ def accepted(script):
     """The second lines of records that answer `00` and a line."""
     answers = replay(script)
     if answers[::2] != ["00"] * len(script):
-        raise SystemExit("pictures: the program refuses a record")
+        raise SystemExit("records: the program refuses a record")
     return answers[1::2]
 
 

@@ -68,6 +68,23 @@ static void duties(void) {
     CHECK(birchjack_fade_step(65535, 65538) == 4);
 }
 
+static void lengths(void) {
+    uint32_t one[2] = {55, 55};
+    uint64_t all[2] = {55, 55};
+    static const uint16_t day[3] = {3019, 3019, 65535};
+    CHECK(birchjack_length(3019, 22050, &one) == 0 && one[0] == 66568 && one[1] == 950);
+    CHECK(birchjack_length_carrying(3019, 22050, one[1], &one) == 0 && one[0] == 66569 && one[1] == 900);
+    CHECK(birchjack_length_carrying(65535, 65537, UINT32_MAX, &one) == 0 && one[0] == 8589934 && one[1] == 590);
+    CHECK(birchjack_total_length(day, 2, 22050, &all) == 0 && all[0] == 133137 && all[1] == 900);
+    CHECK(birchjack_total_length(day, 3, 65537, &all) == 0 && all[0] == 4690679 && all[1] == 701);
+    CHECK(birchjack_total_length(day, 0, 0, &all) == 0 && all[0] == 0 && all[1] == 0);
+    one[0] = one[1] = 55;
+    all[0] = all[1] = 55;
+    CHECK(birchjack_length(1, 65538, &one) == BIRCHJACK_BAD_RATE && birchjack_length_carrying(1, UINT32_MAX, 1, &one) == BIRCHJACK_BAD_RATE);
+    CHECK(one[0] == 55 && one[1] == 55);
+    CHECK(birchjack_total_length(day, 3, 65538, &all) == BIRCHJACK_BAD_RATE && all[0] == 55 && all[1] == 55);
+}
+
 static void evacuation(void) {
     uint8_t cells[80], b = 55;
     uint32_t n = 55;
@@ -246,6 +263,7 @@ int main(void) {
     numbers();
     limits();
     duties();
+    lengths();
     evacuation();
     envelope();
     bank();

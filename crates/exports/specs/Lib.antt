@@ -2,12 +2,14 @@
 --     Told      a value or a refusal, as a number and cells
 --     Leaves    numbers alone
 --     Levels    an envelope alone
+--     Lengths   lengths with what is left over
 --     Signals   the evacuation pattern and its reader
 --     Banks     a bank that is set for one call
 --     Plays     an engine that lives for one call
 pub mod Told
 pub mod Leaves
 pub mod Levels
+pub mod Lengths
 pub mod Signals
 pub mod Banks
 pub mod Plays

@@ -3,5 +3,6 @@
 mod banks;
 mod leaves;
 mod levels;
+mod planned;
 mod plays;
 mod signals;

@@ -1,5 +1,5 @@
 -- Laws of lengths with what is left over. Assumes nothing.
-use Prim.Native.Nat.{ℕ, zero, suc, _+_, _*_, _/_, _%_, _≤_, _<_}
+use Prim.Native.Nat.{ℕ, zero, suc, _+_, _*_, _/_, _%_, _≤_, _<_, min}
 use native.Mathlib.Nat.{add-mul, zero-mul}
 use native.Mathlib.Omega.{arith}
 use mathlib.Core.Path.{_≡_, refl, ap, sym, _∙_}
@@ -9,7 +9,7 @@ use lib.ListN.{length, take, getD}
 use lib.Seq.{take-suc}
 use Rattle.error.specs.Told.{value}
 use Rattle.laws.specs.Lists.{All}
-use Rattle.lengths.specs.Lengths.{parted, carrying, inTurn, leftOver, samplesIn, totalMs, Near, NoDrift}
+use Rattle.lengths.specs.Lengths.{parted, carrying, inTurn, leftOver, samplesIn, totalMs, totalOf, Near, NoDrift}
 use Rattle.lengths.specs.declared.Length.{Length}
 
 -- at an allowed rate a call gives a length: those in turn are calls
@@ -19,6 +19,15 @@ carrying-given ms rate last h = rw (le-ltb 65537 rate h)
 
 rest-small : (n : ℕ) → n % 1000 < 1000
 rest-small n = omega arith
+
+-- "ms × rate = 1000 × samples + remainder, remainder below 1,000"
+pub parted-whole : (n : ℕ) → 1000 * parted n .samples + parted n .remainder ≡ n
+unfolding parted
+parted-whole n = omega arith
+
+pub parted-rest : (n : ℕ) → parted n .remainder < 1000
+unfolding parted
+parted-rest n = rest-small n
 
 -- so many thousandths in two parts, the rest of the first carried on
 carried : (a b : ℕ) → a / 1000 + (b + a % 1000) / 1000 ≡ (a + b) / 1000
@@ -69,6 +78,12 @@ module _ (rate : ℕ) where
         small = turn-small 0 l;
         near = λ k. rw (turn-take k 0 l, turn-samples 0 (take k l) (omega arith)) (near (totalMs (take k l) * rate));
       }
+
+-- the total of a list is what its lengths give in turn
+pub total-in-turn : (rate : ℕ) (l : List ℕ) →
+    totalOf l rate ≡ record { samples = min (samplesIn (inTurn rate 0 l)) 18446744073709551615; remainder = leftOver rate 0 l }
+unfolding totalOf
+total-in-turn rate l = let d = no-drift rate l in rw (d .samples, d .rest)
 
 -- ---- the total of a list's first lengths, one more at a time
 total-append : (l m : List ℕ) → totalMs (l ++ m) ≡ totalMs l + totalMs m

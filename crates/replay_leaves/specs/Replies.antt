@@ -16,6 +16,8 @@ use Rattle.output.specs.Levels.{limitedBus, raised}
 use Rattle.output.specs.Duty.{duty, periodRead}
 use Rattle.output.specs.declared.Period.{Period}
 use Rattle.config.specs.Config.{fadeStep}
+use Rattle.lengths.specs.Lengths.{lengthOf, carrying}
+use Rattle.lengths.specs.declared.Length.{Length}
 use Rattle.tier.specs.Kinds.{kindOf, byteOf}
 use Rattle.tier.specs.declared.KindRead.{KindRead}
 use Rattle.tier.specs.declared.KindRead.the-variants.{Kind, Unknown}
@@ -112,6 +114,17 @@ conversionsReply l =
 unfoldable pub conversion32Reply : List ℕ → Reply
 conversion32Reply l = Word (ofZ w32 (sampleAt l 1 *ℤ pos 0x100_0000)) 8
 
+-- 84, length in samples: "ms (2), rate (4) | number, samples (8 digits), remainder (4 digits); zeros where refused"
+abbrev pub lengthAnswer : Told Length → Reply
+lengthAnswer t = numbered 12 (andThen t (λ n. value (n .samples * 65536 + n .remainder)))
+
+unfoldable pub lengthReply : List ℕ → Reply
+lengthReply l = lengthAnswer (lengthOf (wideAt l 1) (longAt l 3))
+
+-- 85, the same, carrying: "ms (2), rate (4), remainder (4)"
+unfoldable pub carryingReply : List ℕ → Reply
+carryingReply l = lengthAnswer (carrying (wideAt l 1) (longAt l 3) (longAt l 7))
+
 -- a record of so many bytes after its code: "another .. length .. prints FFFF"
 abbrev pub sized : ℕ → ℕ → Reply → Reply
 sized digits bytes r = cond (eqb digits (2 + 2 * bytes)) r Bad
@@ -175,7 +188,9 @@ replyFor code l =
     (cond (eqb code 0x6A) (sized n 11 (restoredReply l))
     (cond (eqb code 0x80) (sized n 10 (patternReply l))
     (cond (eqb code 0x81) (recordingReply l)
-    Bad)))))))))))))))))))))))
+    (cond (eqb code 0x84) (sized n 6 (lengthReply l))
+    (cond (eqb code 0x85) (sized n 10 (carryingReply l))
+    Bad)))))))))))))))))))))))))
 
 -- "No good line is longer than 8,194 digits"; the first byte is the code
 unfoldable pub replyOf : List ℕ → Reply

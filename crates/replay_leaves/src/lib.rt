@@ -1,4 +1,4 @@
-// Answers to a script's lines: records 40 to 48 of the replay format and our own 50 to 6A and 80, 81.
+// Answers to a script's lines: records 40 to 48 of the replay format and our own 50 to 6A, and 80, 81, 84 and 85.
 ghost use mathlib.Core.Path.{_≡_};
 ghost use Rattle.replay_leaves.specs.Replies.{sized, dutiesReply, replyFor, replyOf, patternReply, recordingReply};
 ghost use Rattle.replay_leaves.specs.Answers.{Answers};
@@ -117,6 +117,8 @@ fn reply_for(code: u8, l: &[u8]) -> Reply
         0x6A => sized(n, 11, sounds::restored_reply(l)),
         0x80 => sized(n, 10, pattern_reply(l)),
         0x81 => recording_reply(l),
+        0x84 => sized(n, 6, outputs::length(l)),
+        0x85 => sized(n, 10, outputs::carrying(l)),
         _ => Reply::Bad,
     }
 }

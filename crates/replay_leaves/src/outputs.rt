@@ -1,6 +1,7 @@
 // The records of one number each that may be refused, and the conversions.
 ghost use mathlib.Core.Path.{_≡_};
-ghost use Rattle.replay_leaves.specs.Replies.{limiterReply, dutyReply, fadeReply, conversionsReply, conversion32Reply};
+ghost use Rattle.lengths.specs.Lengths.{toldLength};
+ghost use Rattle.replay_leaves.specs.Replies.{limiterReply, dutyReply, fadeReply, conversionsReply, conversion32Reply, lengthAnswer, lengthReply, carryingReply};
 use crate::Reply;
 use hex::byte_at;
 use hex::long_at;
@@ -8,6 +9,7 @@ use hex::signed32;
 use hex::unsigned16;
 use hex::unsigned32;
 use hex::wide_at;
+use lengths::LengthRead;
 use output::Limited;
 use output::Period;
 use output::PeriodRead;
@@ -76,4 +78,32 @@ pub(crate) fn conversion_to_i32(l: &[u8]) -> Reply
         value: value as u64,
         digits: 8,
     }
+}
+
+// Samples and remainder, or the refusal's number, in 14 digits.
+fn length_word(read: LengthRead) -> Reply
+    ensures { λ r. ⌜ r ≡ lengthAnswer (toldLength read) ⌝ }
+{
+    match read {
+        LengthRead::Length(n) => Reply::Word {
+            value: (n.samples as u64) * 65536 + (n.remainder as u64),
+            digits: 14,
+        },
+        LengthRead::Refused(e) => Reply::Word {
+            value: (e.number() as u64) * 281474976710656,
+            digits: 14,
+        },
+    }
+}
+
+pub(crate) fn length(l: &[u8]) -> Reply
+    ensures { λ r. ⌜ r ≡ lengthReply (now (l .entry)) ⌝ }
+{
+    length_word(lengths::length_in_samples(wide_at(l, 1), long_at(l, 3)))
+}
+
+pub(crate) fn carrying(l: &[u8]) -> Reply
+    ensures { λ r. ⌜ r ≡ carryingReply (now (l .entry)) ⌝ }
+{
+    length_word(lengths::length_carrying(wide_at(l, 1), long_at(l, 3), long_at(l, 7)))
 }

@@ -11,6 +11,7 @@ struct Page;
 
 mod bank;
 pub mod evacuation;
+pub mod lengths;
 mod player;
 pub mod raw;
 mod refusal;

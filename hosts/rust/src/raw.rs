@@ -10,6 +10,19 @@ unsafe extern "C" {
     pub fn birchjack_limit(sum: i32, out: *mut i8) -> u8;
     pub fn birchjack_duty_of(sample: i8, period: u16, out: *mut u16) -> u8;
     pub fn birchjack_fade_step(duration_ms: u16, sample_rate_hz: u32) -> u8;
+    pub fn birchjack_length(ms: u16, sample_rate_hz: u32, out: *mut [u32; 2]) -> u8;
+    pub fn birchjack_length_carrying(
+        ms: u16,
+        sample_rate_hz: u32,
+        remainder: u32,
+        out: *mut [u32; 2],
+    ) -> u8;
+    pub fn birchjack_total_length(
+        lengths: *const u16,
+        lengths_len: usize,
+        sample_rate_hz: u32,
+        out: *mut [u64; 2],
+    ) -> u8;
     pub fn birchjack_envelope(
         attack_ms: u16,
         decay_ms: u16,

@@ -71,6 +71,42 @@ fn numbers_that_may_be_refused() {
 }
 
 #[test]
+fn lengths_with_what_is_left_over() {
+    use birchjack::lengths::{Length, Total, carrying, length, total};
+    let of = |samples, remainder| Ok(Length { samples, remainder });
+    let whole = |samples, remainder| Ok(Total { samples, remainder });
+    assert_eq!(length(3_019, 22_050), of(66_568, 950));
+    assert_eq!(carrying(3_019, 22_050, 950), of(66_569, 900));
+    assert_eq!(carrying(3_019, 22_050, 0), length(3_019, 22_050));
+    assert_eq!(length(0, 0), of(0, 0));
+    // the largest product is 2^32 - 1, and with the largest remainder the sum stays below 2^33
+    assert_eq!(length(65_535, 65_537), of(4_294_967, 295));
+    assert_eq!(carrying(65_535, 65_537, u32::MAX), of(8_589_934, 590));
+    for rate in [65_538, u32::MAX] {
+        assert_eq!(length(1, rate), Err(Refusal::BadRate));
+        assert_eq!(carrying(1, rate, 1), Err(Refusal::BadRate));
+        assert_eq!(total(&[1], rate), Err(Refusal::BadRate));
+    }
+
+    // forty lengths in turn are the total, at every place
+    let day: Vec<u16> = (1..=40).map(|k| 977 * k + 3_019).collect();
+    let (mut samples, mut remainder) = (0, 0);
+    for (place, ms) in day.iter().enumerate() {
+        let given = carrying(*ms, 22_050, remainder).unwrap();
+        assert!(given.remainder < 1_000);
+        samples += given.samples as u64;
+        remainder = given.remainder;
+        let exact: u64 = day[..=place].iter().map(|ms| *ms as u64 * 22_050).sum();
+        assert_eq!((samples, remainder as u64), (exact / 1_000, exact % 1_000));
+        assert_eq!(
+            total(&day[..=place], 22_050),
+            whole(samples, remainder as u64)
+        );
+    }
+    assert_eq!(total(&[], 22_050), whole(0, 0));
+}
+
+#[test]
 fn the_evacuation_pattern() {
     use birchjack::evacuation::{cycle, fill, reads, sounds};
     assert_eq!(cycle(20), Ok(80));
@@ -122,6 +158,33 @@ fn the_evacuation_pattern() {
     million[999_999] = 2;
     assert_eq!(reads(20, &million), Ok(false));
     assert_eq!(reads(8_000, &vec![1; 1_000_000]), Ok(false));
+}
+
+/// Beside a cycle that is laid out here: from the start of its fourth turn two whole ones and a piece.
+#[test]
+fn the_evacuation_pattern_at_many_rates() {
+    use birchjack::evacuation::{cycle, fill, reads, sounds};
+    for rate in [
+        20, 21, 22, 33, 100, 999, 1_000, 1_001, 8_000, 22_050, 65_537,
+    ] {
+        let lengths = [500, 500, 500, 500, 500, 1_500].map(|ms| ms * rate as usize / 1_000);
+        let phases = lengths.iter().enumerate();
+        let whole: Vec<u8> = phases
+            .flat_map(|(place, length)| vec![1 - place as u8 % 2; *length])
+            .collect();
+        assert_eq!(cycle(rate), Ok(whole.len() as u32));
+
+        let start = 3 * whole.len() as u64;
+        let mut cells = vec![9; 2 * whole.len() + 7];
+        assert_eq!(fill(rate, start, &mut cells), Ok(()));
+        assert_eq!(cells, [&whole[..], &whole, &whole[..7]].concat());
+        for place in (0..cells.len()).step_by(whole.len() / 71) {
+            let sample = start + place as u64;
+            assert_eq!(sounds(rate, sample), Ok(cells[place] == 1));
+        }
+        assert_eq!(reads(rate, &cells[..2 * whole.len()]), Ok(true));
+        assert_eq!(reads(rate, &cells), Ok(false));
+    }
 }
 
 #[test]

@@ -16,6 +16,8 @@ mod edges;
 mod engine;
 #[path = "generate/enginebad.rs"]
 mod enginebad;
+#[path = "generate/lengths.rs"]
+mod lengths;
 #[path = "generate/plays.rs"]
 mod plays;
 #[path = "generate/random.rs"]

@@ -1,5 +1,5 @@
 //! Reads a script on standard input and prints the Rust original's answers: the records of the replay format, our own 50 to
-//! 6A, and 80 and 81, which the original has not (docs/REPLAY.md). A bad line prints FFFF and ends the run.
+//! 6A, and 80, 81, 84 and 85, which the original has not (docs/REPLAY.md). A bad line prints FFFF and ends the run.
 
 #[path = "replay/answers.rs"]
 mod answers;
@@ -9,6 +9,8 @@ mod engine;
 mod fields;
 #[path = "replay/frames.rs"]
 mod frames;
+#[path = "replay/lengths.rs"]
+mod lengths;
 #[path = "replay/rules.rs"]
 mod rules;
 #[path = "replay/signals.rs"]
@@ -33,7 +35,7 @@ const LEND: u8 = 0x12;
 type Answer = fn(&mut Fields, &mut Answers) -> Answered;
 
 /// The records that need no engine: code, least and greatest number of bytes after it, and what answers it.
-const ALONE: [(u8, usize, usize, Answer); 24] = [
+const ALONE: [(u8, usize, usize, Answer); 26] = [
     (0x40, 2, 2, steps::gain),
     (0x41, 3, 3, steps::lerp),
     (0x42, 4, 4, steps::limiter),
@@ -58,6 +60,8 @@ const ALONE: [(u8, usize, usize, Answer); 24] = [
     (0x6A, 11, 11, sounds::oscillator_from_bits),
     (0x80, 10, 10, signals::pattern),
     (0x81, 4, 4_096, signals::reader),
+    (0x84, 6, 6, lengths::length),
+    (0x85, 10, 10, lengths::carrying),
 ];
 
 fn main() -> io::Result<()> {

@@ -1,6 +1,7 @@
 //! One good record of any kind.
 
 use crate::draw::Draw;
+use crate::lengths;
 use crate::script::{Envelope, Line, i8, i32, mapper, record, u8, u16, u32};
 use crate::signals;
 use crate::sources;
@@ -10,7 +11,7 @@ type Drawn = fn(&mut Draw) -> Line;
 pub const MOST_SAMPLES: u32 = 4_089;
 
 /// Every record that is read today.
-pub const RECORDS: [(u8, Drawn); 24] = [
+pub const RECORDS: [(u8, Drawn); 26] = [
     (0x40, |d| record(0x40, &[i8(d.i8()), u8(d.u8())])),
     (0x41, |d| {
         record(0x41, &[i8(d.i8()), i8(d.i8()), u8(d.u8())])
@@ -39,6 +40,8 @@ pub const RECORDS: [(u8, Drawn); 24] = [
     (0x6A, sources::any_restored),
     (0x80, signals::any_pattern),
     (0x81, signals::any_reader),
+    (0x84, lengths::any_length),
+    (0x85, lengths::any_carrying),
 ];
 
 pub fn any(draw: &mut Draw) -> Line {

@@ -4,6 +4,7 @@
 use crate::draw::Draw;
 use crate::edges::{BYTES, HALVES, INTEGRATORS, RATES, SAMPLES, WORDS};
 use crate::engine;
+use crate::lengths;
 use crate::random;
 use crate::script::{Script, i8, mapper, u8, u16, u32};
 use crate::sets;
@@ -27,6 +28,7 @@ pub fn print(script: &mut Script, frames: Option<bool>) {
     envelopes(script);
     sources::recorded(script);
     signals::recorded(script);
+    lengths::recorded(script);
     let mut draw = Draw::modest(1);
     for _ in 0..5_000 {
         script.add(&random::any(&mut draw));

@@ -1,6 +1,7 @@
 //! Whole sets: every input of a record where there are few enough, else a grid over the edges.
 
 use crate::edges::{self, HALVES, RATES, SAMPLES, WORDS};
+use crate::lengths;
 use crate::random::MOST_SAMPLES;
 use crate::script::{Envelope, Script, i8, i32, mapper as mapper_record, u8, u16, u32};
 use crate::signals;
@@ -12,7 +13,7 @@ pub const FLOATS: u32 = 2_000_000;
 
 type Print = fn(&mut Script, u32);
 
-pub const SETS: [(&str, Print); 20] = [
+pub const SETS: [(&str, Print); 21] = [
     ("gain", |script, _| gain(script)),
     ("sine", |script, _| bytes(script, 0x45)),
     ("pan", |script, _| bytes(script, 0x43)),
@@ -36,6 +37,7 @@ pub const SETS: [(&str, Print); 20] = [
     ("restored", |script, _| sources::restored(script)),
     ("pattern", |script, _| signals::patterns(script)),
     ("reader", |script, _| signals::readers(script)),
+    ("length", |script, _| lengths::lengths(script)),
 ];
 
 /// Nothing where there is no set of that name.

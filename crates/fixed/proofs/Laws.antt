@@ -3,19 +3,13 @@ use mathlib.Core.Path.{_≡_, refl, sym, subst}
 use Prim.Native.Nat.{ℕ, zero, suc, _+_, _-_, _*_, _/_, _^_, _≤_, _<_}
 use native.Mathlib.Nat.{div-le-of-le-mul, mul-le-mul-left, le-trans, le-of-eq, le-antisymm, le-div-iff-mul-le, div-lt-iff-lt-mul, zero-div, mul-comm}
 use native.Mathlib.Omega.{arith}
-use lib.Dec.{leb, leb→le}
 use lib.IntN.{ℤ, pos, negsuc, negℤ, natAbs, subℕ, _+ℤ_, _-ℤ_, _*ℤ_, +ℤ-comm, +ℤ-idr, -ℤ-+ℤ-cancel}
 use lib.Signed.{quotZ, shrZ, mag}
 use mir.Syntax.{Width, w8, w32}
 use mir.Val.{Fits, SFits, hbits}
 use mir.Facts.{sfits-widen}
-use Rattle.laws.proofs.Finite.{below}
 use Rattle.laws.proofs.Signed.{abs≤, abs-fits, abs-quot, mul≤, add≤, sub≤, mag-shr, mag≤abs, sub-fits, sub-bounds, neg-quot}
-use Rattle.fixed.specs.Fixed.{arch, toward}
-
--- the arch stays below 64, by one test over its 256 places
-pub arch-low : (y : ℕ) → y ≤ 255 → y * (255 - y) ≤ 16256
-arch-low y h = leb→le _ _ (below (λ k. leb (k * (255 - k)) 16256) 256 tt y (omega arith))
+use Rattle.fixed.specs.Fixed.{toward}
 
 -- k of n steps up from a, or down from a, stay within what a and the whole way fit
 module _ {w : Width} where

@@ -1,11 +1,11 @@
 // Phases, samples and gains; decibels in floats.rt.
 ghost use mathlib.Core.Path.{_≡_};
-ghost use Prim.Native.Nat.{_+_, _≤_, _<_};
+ghost use Prim.Native.Nat.{_+_, _-_, _*_, _≤_, _<_, min};
 ghost use lib.IntN.{pos};
 ghost use mir.Syntax.{w8};
 ghost use mir.Val.{toZ, ofZ};
 ghost use Rattle.laws.specs.Whole.{neg, heldTo};
-ghost use Rattle.fixed.specs.Fixed.{increment, indexOf, fractionOf, arch, sine, toward, gained, panGains, knee, limited};
+ghost use Rattle.fixed.specs.Fixed.{increment, indexOf, fractionOf, sine, toward, gained, panGains, knee, limited};
 
 mod floats;
 
@@ -47,23 +47,23 @@ pub fn phase_fraction(phase: Phase) -> u8
     ((phase >> 16) % 256) as u8
 }
 
-// One half of the sine, y running from 0 to 254 and back.
-fn arch_i8(y: u32) -> i8
-    requires { ⌜ y ≤ 255 ⌝ }
-    ensures { λ r. ⌜ r ≡ pos (arch y) ⌝ }
+// Document 01's y, "2x below 128, else 2(255 − x)": the smaller of the two.
+fn fold(index: u8) -> u16
+    ensures { λ r. ⌜ r ≡ min (2 * index) (510 - 2 * index) ⌝ }
 {
-    (y * (255 - y) / 256) as i8
+    let up = 2 * (index as u16);
+    let down = 510 - up;
+    if up < down { up } else { down }
 }
 
+// Both halves by one product, y × (255 - 2x): the second factor is 255 - y in the first half and y - 255 in the other, so it has the
+// half's sign.
 pub fn sin_table(index: u8) -> i8
     ensures { λ r. ⌜ r ≡ sine index ⌝ }
 {
-    let x = index as u32;
-    if x < 128 {
-        arch_i8(2 * x)
-    } else {
-        -arch_i8(2 * (255 - x))
-    }
+    let y = fold(index) as i16;
+    let up = 2 * (index as i16);
+    (y * (255 - up) / 256) as i8
 }
 
 // The source's `b as i8`: the byte read as two's complement.

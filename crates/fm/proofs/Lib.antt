@@ -1,6 +1,4 @@
 -- What callers and the proofs cite.
---     Table       the table's rule
 --     Requests    many requests: fm-active; an active oscillator gives samples alone (fm-heard, fm-run, fm-after), another none
 --                 (fm-silent, fm-run-none, fm-stays); what a block stores
-mod Table
 pub mod Requests

@@ -1,8 +1,5 @@
--- FM: the table, the sample between its entries, and what each call makes of the oscillator. Assumes nothing.
-use mathlib.Core.Path.{_≡_}
-use mathlib.Core.List.{List}
-use lib.ListN.{length, getD}
-use Prim.Native.Nat.{ℕ, _+_, _*_, _/_, _%_, _^_, _<_}
+-- FM: the sine plus 128, the sample between two neighbours, and what each call makes of the oscillator. Assumes nothing.
+use Prim.Native.Nat.{ℕ, _+_, _*_, _/_, _%_, _^_}
 use mathlib.Core.Bool.{Bool, true, false, cond}
 use lib.IntN.{ℤ, pos, natAbs, _+ℤ_, _*ℤ_}
 use mir.Syntax.{w8}
@@ -16,10 +13,6 @@ use Rattle.fm.specs.declared.FmStep.{FmStep}
 -- "The 256-entry FM table holds that value plus 128": the sine, which lies above −128
 abbrev pub tableEntry : ℕ → ℕ
 tableEntry x = natAbs (sine x +ℤ pos 128)
-
-pub record SineTable (table : List ℕ) : Type 0 where
-  pub size : length table ≡ 256
-  pub entry : (x : ℕ) → x < 256 → getD table x 0 ≡ tableEntry x
 
 -- "FM reads the byte as two's complement, so 128 counts as −128"
 unfoldable pub tableSine : ℕ → ℤ

@@ -1,4 +1,4 @@
-// A block of requests: the table is laid out once, and the loop has the two phases alone.
+// A block of requests: the loop has the two phases alone.
 ghost use mathlib.Core.Path.{_≡_};
 ghost use Prim.Native.Nat.{_≤_, min};
 ghost use lib.Seq.{sets};
@@ -9,7 +9,6 @@ ghost use Rattle.fm.specs.Blocks.{nextFm, fmRun, fmSamples};
 use super::FmFilled;
 use super::FmVoice;
 use super::sample_at;
-use super::wavetable;
 
 fn lesser(a: usize, b: usize) -> usize
     ensures { λ r. ⌜ r ≡ min a b ⌝ }
@@ -24,11 +23,10 @@ impl FmVoice {
         ensures { λ r. ⌜ r ≡ after advancedFm n self ⌝ }
         ensures { λ _. ⌜ now (out .exit) ≡ sets (now (out .entry)) 0 (fmSamples n self) ⌝ }
     {
-        let table = wavetable::SINE_TABLE;
         let mut carrier = self.carrier_phase;
         let mut modulator = self.mod_phase;
         for k in 0..n {
-            out[k] = sample_at(&table, carrier, modulator, self.mod_depth_q8);
+            out[k] = sample_at(carrier, modulator, self.mod_depth_q8);
             carrier = std::num::wrapping_add_u32(carrier, self.carrier_inc);
             modulator = std::num::wrapping_add_u32(modulator, self.mod_inc);
         }

@@ -1,11 +1,10 @@
-// Two-operator FM: a modulator's sample shifts the carrier's index into the sine table.
+// Two-operator FM: a modulator's sample shifts the carrier's index into the sine.
 ghost use mathlib.Core.Path.{_≡_};
-ghost use Rattle.fm.specs.Fm.{SineTable, tableSample, modulatorHz, offsetOf, sampleAt, fmSample, silentFm, startedFm, stoppedFm, steppedFm};
+ghost use Rattle.fm.specs.Fm.{tableSine, tableSample, modulatorHz, offsetOf, sampleAt, fmSample, silentFm, startedFm, stoppedFm, steppedFm};
 use fixed::Given;
 use fixed::Phase;
 
 mod blocks;
-mod wavetable;
 
 pub struct FmVoice {
     pub carrier_phase: Phase,
@@ -28,13 +27,19 @@ pub struct FmFilled {
     pub given: usize,
 }
 
-// The table between an index and the next, 255 being followed by 0.
-fn table_sample(table: &[u8; 256], index: u8, fraction: u8) -> i8
-    requires { ⌜ SineTable (now table) ⌝ }
+// The sine plus 128 as a byte, which the source keeps in a table and reads as two's complement: 128 counts as -128.
+fn sine_entry(index: u8) -> i8
+    ensures { λ r. ⌜ r ≡ tableSine index ⌝ }
+{
+    fixed::as_i8((fixed::sin_table(index) as i16 + 128) as u8)
+}
+
+// What lies between the entries of an index and of the next, 255 being followed by 0.
+fn table_sample(index: u8, fraction: u8) -> i8
     ensures { λ r. ⌜ r ≡ tableSample index fraction ⌝ }
 {
-    let a = wavetable::sine_entry(table, index);
-    let b = wavetable::sine_entry(table, std::num::wrapping_add_u8(index, 1));
+    let a = sine_entry(index);
+    let b = sine_entry(std::num::wrapping_add_u8(index, 1));
     fixed::lerp_i8(a, b, fraction)
 }
 
@@ -46,23 +51,21 @@ fn modulator_hz(carrier_hz: u32, mod_ratio_cent: u16) -> u32
 }
 
 // How far the modulator shifts the carrier's index.
-fn mod_offset(table: &[u8; 256], mod_phase: Phase, mod_depth_q8: u8) -> u8
-    requires { ⌜ SineTable (now table) ⌝ }
+fn mod_offset(mod_phase: Phase, mod_depth_q8: u8) -> u8
     ensures { λ r. ⌜ r ≡ offsetOf «mod_phase» «mod_depth_q8» ⌝ }
 {
     let index = fixed::phase_index(mod_phase);
-    let m = table_sample(table, index, fixed::phase_fraction(mod_phase));
+    let m = table_sample(index, fixed::phase_fraction(mod_phase));
     fixed::as_u8(fixed::apply_gain_q8(m, mod_depth_q8))
 }
 
 // The sample of two phases and a depth.
-fn sample_at(table: &[u8; 256], carrier_phase: Phase, mod_phase: Phase, mod_depth_q8: u8) -> i8
-    requires { ⌜ SineTable (now table) ⌝ }
+fn sample_at(carrier_phase: Phase, mod_phase: Phase, mod_depth_q8: u8) -> i8
     ensures { λ r. ⌜ r ≡ sampleAt «carrier_phase» «mod_phase» «mod_depth_q8» ⌝ }
 {
-    let offset = mod_offset(table, mod_phase, mod_depth_q8);
+    let offset = mod_offset(mod_phase, mod_depth_q8);
     let index = std::num::wrapping_add_u8(fixed::phase_index(carrier_phase), offset);
-    table_sample(table, index, fixed::phase_fraction(carrier_phase))
+    table_sample(index, fixed::phase_fraction(carrier_phase))
 }
 
 impl FmVoice {
@@ -114,17 +117,10 @@ impl FmVoice {
         self.active
     }
 
-    // The table is laid out once for a sample, and lent to its four readings.
     fn sample(self) -> i8
         ensures { λ r. ⌜ r ≡ fmSample self ⌝ }
     {
-        let table = wavetable::SINE_TABLE;
-        sample_at(
-            &table,
-            self.carrier_phase,
-            self.mod_phase,
-            self.mod_depth_q8,
-        )
+        sample_at(self.carrier_phase, self.mod_phase, self.mod_depth_q8)
     }
 
     pub fn next_sample(self) -> FmStep

@@ -1,49 +1,81 @@
--- `fixed::sin_table` meets its contract. Both halves are the one arch, at most 63 high.
+-- `fixed::sin_table` meets its contract. That the one product is the sine of both halves, and low, is a test over all its places.
 use borrow.Author.Needs.{needs}
-use borrow.Author.Tests.{lt-ltb, le-ltb}
-use Prim.Native.Nat.{_*_, _-_, _≤_}
+use mathlib.Core.Path.{_≡_}
+use Prim.Native.Nat.{ℕ, _-_, _*_, _<_, min}
 use native.Mathlib.Omega.{arith}
-use mathlib.Core.Path.{_∙_}
-use mir.Syntax.{w8}
+use lib.IntN.{ℤ, pos, _-ℤ_, _*ℤ_}
+use lib.Signed.{quotZ}
+use mir.Syntax.{w8, w16}
 use mir.Val.{SFits}
 use mir.ValLaws.{toZ-ofZ}
-use lib.IntN.{pos, negℤ}
-use Rattle.laws.proofs.Signed.{neg-fits, zero-sub}
-use Rattle.fixed.specs.Fixed.{arch}
-use Rattle.fixed.proofs.Laws.{arch-low}
+use mir.Facts.{sfits-widen}
+use Rattle.laws.proofs.Finite.{same-at, fits-at}
+use Rattle.laws.proofs.Signed.{signed, toZ-nat}
+use Rattle.fixed.specs.Fixed.{sine}
 use Rattle.fixed.proofs.sin_table.Statement.{statement}
 use Rattle.fixed.proofs.sin_table.Tie as tie
 
-down : (c : tie.After-arch-i82) → SFits w8 (negℤ (pos (arch (2 * (255 - c .before .before .args .index)))))
-down c =
-    let y = 2 * (255 - c .before .before .args .index) in
-    let l = arch-low y (omega arith) in
-    let h : arch y ≤ 63 = omega arith in
-    neg-fits h tt
+-- 255 − 2x, its product with y, and the 256th part of that
+abbrev factor : ℕ → ℤ
+factor x = pos 255 -ℤ (pos 2 *ℤ pos x)
 
-half : (c : tie.After-arch-i82) → SFits w8 (c .arch-i82 .result)
-half c = record { sfits = c .arch-i82 .ok }
+abbrev part : ℕ → ℕ → ℤ
+part x y = quotZ (pos y *ℤ factor x) (pos 256)
 
-sub-result : tie.Need-sub-result
-sub-result c = rw (toZ-ofZ w8 _ (half c), c .arch-i82 .ensures, zero-sub) (down c)
+abbrev folded : ℕ → ℕ
+folded x = min (2 * x) (510 - 2 * x)
+
+record Product (x y : ℕ) : Type 0 where
+  place : SFits w16 (pos x)
+  rise : SFits w16 (pos y)
+  twice : SFits w16 (pos 2 *ℤ pos x)
+  signed-factor : SFits w16 (factor x)
+  prod : SFits w16 (pos y *ℤ factor x)
+  quot : SFits w16 (part x y)
+  byte : SFits w8 (part x y)
+  is : part x y ≡ sine x
+
+product : (x : ℕ) → x < 256 → Product x (folded x)
+product x h =
+    let low = fits-at w8 (λ n. part n (folded n)) 0 256 tt x (omega arith) h in
+    record {
+      place = fits-at w16 pos 0 256 tt x (omega arith) h;
+      rise = fits-at w16 (λ n. pos (folded n)) 0 256 tt x (omega arith) h;
+      twice = fits-at w16 (λ n. pos 2 *ℤ pos n) 0 256 tt x (omega arith) h;
+      signed-factor = fits-at w16 factor 0 256 tt x (omega arith) h;
+      prod = fits-at w16 (λ n. pos (folded n) *ℤ factor n) 0 256 tt x (omega arith) h;
+      quot = sfits-widen tt low;
+      byte = low;
+      is = same-at (λ n. part n (folded n)) sine 0 256 tt x (omega arith) h;
+    }
+
+productC : (c : tie.After-fold) → Product (c .before .args .index) (c .fold .result)
+productC c = rw (c .fold .ensures) (product (c .before .args .index) (omega arith))
+
+cast-result : tie.Need-cast-result
+cast-result c =
+    let f = productC c in
+    simp
+    (toZ-nat (f .place), toZ-nat (f .rise), toZ-ofZ w16 _ (f .twice), toZ-ofZ w16 _ (f .signed-factor), toZ-ofZ w16 _ (f .prod), toZ-ofZ w16 _ (f .quot))
+    (f .byte)
 
 returns : tie.Need-returns
 returns c =
-    rw (toZ-ofZ w8 _ (record { sfits = c .arch-i8 .ok }), c .arch-i8 .ensures, lt-ltb _ _ (c .before .if1 .taken))
-
-returns-2 : tie.Need-returns-2
-returns-2 c =
-    rw (toZ-ofZ w8 _ (half c), c .arch-i82 .ensures, zero-sub, toZ-ofZ w8 _ (down c), le-ltb _ _ (c .before .if1 .left))
+    let f = productC c in
+    simp
+    (toZ-nat (f .place), toZ-nat (f .rise), toZ-ofZ w16 _ (f .twice), toZ-ofZ w16 _ (f .signed-factor), toZ-ofZ w16 _ (f .prod), toZ-ofZ w16 _ (f .quot), toZ-ofZ w8 _ (f .byte))
+    (f .is)
 
 pub sin-table-spec : {M : Type 1} → statement M
 sin-table-spec =
     tie.close
     (tie.spec
-    (λ c. search needs)
     (λ c κs. search needs)
-    (λ c. search needs)
-    (λ c. search needs)
-    (λ c κs. search needs)
-    sub-result
-    returns
-    returns-2)
+    (λ c. let f = productC c in search signed)
+    (λ c. let f = productC c in search signed)
+    (λ c. let f = productC c in search signed)
+    (λ c. let f = productC c in search signed)
+    (λ c. let f = productC c in search signed)
+    (λ c. let f = productC c in search signed)
+    cast-result
+    returns)

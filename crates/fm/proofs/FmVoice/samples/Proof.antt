@@ -9,7 +9,6 @@ use mir.ValLaws.{toZ-ofZ}
 use Rattle.laws.proofs.Stores.{Wrote, wrote-none, front-one}
 use Rattle.fm.specs.declared.FmVoice.{FmVoice}
 use Rattle.fm.specs.Fm.{fmSample, advancedFm}
-use Rattle.fm.proofs.Table.{sine-table}
 use Rattle.fm.proofs.FmVoice.samples.Statement.{statement}
 use Rattle.fm.proofs.FmVoice.samples.Tie as tie
 
@@ -25,17 +24,14 @@ atPhases v carrier modulator =
     }
 
 abbrev Inv-loop : tie.InvT-loop
-Inv-loop self n out₀ table carrier₀ modulator₀ k₀ out carrier modulator k =
+Inv-loop self n out₀ carrier₀ modulator₀ k₀ out carrier modulator k =
     (k ≤ n) × Wrote advancedFm fmSample self out₀ 0 k (atPhases self carrier modulator) out
 
 abbrev μ-loop : tie.MeasureT-loop
-μ-loop self n out₀ table carrier₀ modulator₀ k₀ out carrier modulator k = n - k
+μ-loop self n out₀ carrier₀ modulator₀ k₀ out carrier modulator k = n - k
 
 loop-holds : tie.Need-loop-holds Inv-loop μ-loop
 loop-holds c = (omega arith, wrote-none _ _)
-
-sample-at-requires : tie.Need-sample-at-requires Inv-loop μ-loop
-sample-at-requires c κs = sine-table
 
 element-set-from-out : tie.Need-element-set-from-out Inv-loop μ-loop
 element-set-from-out c = search needs
@@ -50,7 +46,7 @@ loop-again : tie.Need-loop-again Inv-loop μ-loop
 unfolding fmSample
 loop-again c =
     let a = c .before .before in
-    let s = a .before .before .before in
+    let s = a .before .before in
     (omega arith, rw (c .wrapping-add-u322 .ensures, c .before .wrapping-add-u32 .ensures, toZ-ofZ w8 (a .sample-at .result) (record { sfits = a .sample-at .ok }), a .sample-at .ensures) (front-one _ _ (s .loop .inv .1)))
 
 returns : tie.Need-returns Inv-loop μ-loop
@@ -66,7 +62,7 @@ samples-spec =
     Inv-loop
     μ-loop
     loop-holds
-    sample-at-requires
+    (λ c κs. search needs)
     element-set-from-out
     (λ c κs. search needs)
     (λ c κs. search needs)

@@ -7,6 +7,20 @@ impl<'a, const N: usize> AudioEngine<'a, N> {
         self.bank
     }
 
+    /// How many frames a fade has left: how often the original advances its t until the fade is over. 0 where none is running.
+    pub fn fade_frames_left(&self) -> i64 {
+        let mut fade = AudioEngine::<N>::with_voice_count(self.config);
+        fade.crossfade_t_q8 = self.crossfade_t_q8;
+        fade.crossfade_step_q8 = self.crossfade_step_q8;
+        fade.crossfade_active = self.crossfade_active;
+        let mut frames = 0;
+        while fade.crossfade_active {
+            fade.advance_crossfade();
+            frames += 1;
+        }
+        frames
+    }
+
     /// The same engine, for a longer time, with a bank that lasts as long.
     fn kept(self, bank: Option<SoundBank<'static>>) -> AudioEngine<'static, N> {
         AudioEngine {

@@ -66,6 +66,32 @@ fn the_state_is_the_original_s() {
     assert_eq!(lines.len(), 8);
 }
 
+/// 20 ms at 8,000 Hz are 160 samples: the step is 2, and 128 frames end the fade, whichever kinds they are and whatever comes between. A fade
+/// that is refused leaves it, another one begins anew, a stop ends it.
+#[test]
+fn frames_that_a_fade_has_left() {
+    let before = [OPEN, &lend(), &set(), &play(1, 9), "79", &fade(3), "79"];
+    let lines = answers(&before);
+    assert_eq!([&lines[3], &lines[5]], ["00", "80"]);
+    let left = |records: &[&str]| last(&[&before[..], records, &["79"]].concat());
+    assert_eq!(left(&["210064"]), "1C");
+    assert_eq!(left(&["210064", "2B", "2C"]), "1A");
+    assert_eq!(left(&["21007F"]), "01");
+    assert_eq!(left(&["2A0100"]), "00");
+    let others = [
+        &play(1, 9),
+        "15000001B8000A00",
+        "1801",
+        "170107",
+        "1A0001",
+        &set(),
+    ];
+    assert_eq!(left(&[&["210064"], &others[..]].concat()), "1C");
+    assert_eq!(left(&["210064", &fade(2), "2B"]), "1B");
+    assert_eq!(left(&["210064", &fade(1), "2B"]), "7F");
+    assert_eq!(left(&["210064", "19"]), "00");
+}
+
 /// The records that print nothing, by the dump after them.
 #[test]
 fn calls_without_an_answer() {

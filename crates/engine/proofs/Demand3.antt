@@ -79,7 +79,7 @@ rest-by m (refused n) s = refl
 rest-by m (value i) (value v) = refl
 rest-by m (value i) (refused e) = refl
 
-rest-one : (m : Mixer) (bytes : List ℕ) (r : Request) → played m bytes r .mixer ≡ withVoices m (played m bytes r .mixer .voices)
+pub rest-one : (m : Mixer) (bytes : List ℕ) (r : Request) → played m bytes r .mixer ≡ withVoices m (played m bytes r .mixer .voices)
 unfolding played
 rest-one m bytes r = rest-by m (allocated m (r .priority)) (requestStart (m .bank) bytes r)
 

@@ -6,6 +6,7 @@ ghost use Rattle.allocate.specs.Allocation.{allocated, toldPlace};
 ghost use Rattle.bank.specs.Banks.{payloadGiven, toldPayload, payloadPart};
 ghost use Rattle.bank.specs.Entries.{toldEntry};
 ghost use Rattle.bank.specs.Search.{foundGiven};
+ghost use Rattle.frame.specs.Lasting.{framesLeft};
 ghost use Rattle.mixer.specs.Mixers as M;
 ghost use Rattle.play.specs.Plays.{played, toned, polyBleped};
 ghost use Rattle.play.specs.Fades.{faded};
@@ -226,6 +227,11 @@ impl AudioEngine {
         }
     }
 
+    // A fade from voice 0 to the entry. Where it is accepted, it takes 255 / step frames, rounded up, step being
+    // config::crossfade_step_q8 of the duration and the engine's rate: frames from this call on, mono or stereo in any order, also through
+    // buffer calls. After fewer of them the fade is running; the frame of that number is the one in which voice 0 takes over, and after it the fade is
+    // over. Other calls between the frames, refused ones among them, change nothing of that; a stop and another fade that is accepted do.
+    // (specs/Steps.antt FadeTakes; fade_frames_left tells what is left.)
     pub fn crossfade_to(
         self,
         bytes: &[u8],
@@ -244,6 +250,15 @@ impl AudioEngine {
             outcome,
             engine: AudioEngine { state },
         }
+    }
+
+    // How many frames a fade has left, the one in which it ends among them; 0 where none is running.
+    pub fn fade_frames_left(self) -> u8
+        requires { ⌜ ValidEngine self ⌝ }
+        ensures { λ r. ⌜ r ≡ framesLeft (self .state) ⌝ }
+    {
+        let m = self.state;
+        frame::frames_left(m)
     }
 
     pub fn play_tone(self, freq_hz: u32, duration_ms: u16, waveform: Waveform) -> AudioEngine

@@ -1,9 +1,11 @@
 -- What callers cite.
 --     Laws     each definition keeps a state valid
---     Fades    a fade ends within 255 frames
+--     Lasting  how long a fade takes, in any box whose steps keep the laws: lasts
+--     Fades    a frame of either kind advances the fade: frame-fade; a fade ends within 255 frames
 --     Silence  what is silent stays silent
 --     Voices   a frame of all voices is a frame of each: mono-framed, stereo-framed
 pub mod Laws
+pub mod Lasting
 pub mod Fades
 pub mod Silence
 pub mod Voices

@@ -2,6 +2,8 @@
 --     Fades     the fade's advance and end
 --     Frames    one mono frame, one stereo frame
 --     Runs      frames one after another
+--     Lasting   how long a fade takes
 pub mod Fades
 pub mod Frames
 pub mod Runs
+pub mod Lasting

@@ -1,14 +1,16 @@
 -- No line of the account is longer than a text holds. Assumes nothing.
 use Prim.Native.Nat.{ℕ, _*_, _≤_}
 use mathlib.Core.Path.{refl}
-use mathlib.Core.List.{List, []}
+use mathlib.Core.List.{List, [], _++_}
 use native.Mathlib.Omega.{arith}
 use borrow.Author.Tests.{leb-true}
 use lib.Dec.{eqb}
 use lib.ListN.{length, length-append}
+use Rattle.config.specs.Config.{roundedUp, fadeStep}
+use Rattle.frame.specs.Lasting.{fadeCount}
 use Rattle.render_texts.specs.Texts.{words, millisecondsOf}
 use Rattle.render_texts.specs.declared.Clock.{Clock}
-use Rattle.render_texts.proofs.Whole.{either-within, words-within, decimal-within, things-within, seconds-within, time-within}
+use Rattle.render_texts.proofs.Whole.{either-within, words-within, decimal-within, things-within, seconds-within, tenths-within, time-within}
 use Rattle.hex.specs.Hex.{byteAt, wideAt, longAt}
 use Rattle.voice.specs.Voices.{audible}
 use Rattle.mixer.specs.Mixers.{voiceRead}
@@ -48,10 +50,17 @@ unfolding T.playText
 play-within l answer e c =
     simp length-append (omega (arith, time-within c, decimal-within (wideAt l 1), decimal-within (byteAt l 10), outcome-within answer e))
 
-fade-within : (l answer : List ℕ) (c : Clock) → length (T.fadeText l answer c) ≤ 256
+over-within : (ms rate : ℕ) → length (T.overText ms rate) ≤ 35
+unfolding T.overText
+over-within ms rate =
+    words-within 35 (eqb rate 0) _ _ refl (simp length-append (omega (arith, tenths-within (roundedUp (10_000 * fadeCount (fadeStep ms rate)) rate))))
+
+fade-within : (l answer : List ℕ) (e : AudioEngine) (c : Clock) → length (T.fadeText l answer e c) ≤ 256
 unfolding T.fadeText
-fade-within l answer c =
-    simp length-append (omega (arith, time-within c, decimal-within (wideAt l 1), decimal-within (wideAt l 3), end-within (byteAt answer 0)))
+fade-within l answer e c =
+    let last = either-within 89 (eqb (byteAt answer 0) 0) (T.overText (wideAt l 3) (e .state .config .«sample_rate_hz») ++ words "\n") (T.endText (byteAt answer 0))
+    (simp length-append (omega (arith, over-within (wideAt l 3) (e .state .config .«sample_rate_hz»)))) (end-within (byteAt answer 0)) in
+    simp length-append (omega (arith, time-within c, decimal-within (wideAt l 1), decimal-within (wideAt l 3), last))
 
 lasting-within : (ms : ℕ) → length (T.lastingText ms) ≤ 28
 unfolding T.lastingText
@@ -91,7 +100,7 @@ line-within l answer e c =
     either-within 256 (eqb code 0x10) _ _ (count-within (words "open ") (byteAt l 1) (words " voice") (longAt l 2) answer c (omega arith) (omega arith))
     (either-within 256 (eqb code 0x11) _ _ (count-within (words "set a bank of ") (wideAt l 5) (words " sound") (longAt l 1) answer c (omega arith) (omega arith))
     (either-within 256 (eqb code 0x13) _ _ (play-within l answer e c)
-    (either-within 256 (eqb code 0x14) _ _ (fade-within l answer c)
+    (either-within 256 (eqb code 0x14) _ _ (fade-within l answer e c)
     (either-within 256 (eqb code 0x15) _ _ (tone-within l e c)
     (either-within 256 (eqb code 0x16) _ _ (polyblep-within l e c)
     (either-within 256 (eqb code 0x19) _ _ (stop-within c)

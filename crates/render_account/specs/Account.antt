@@ -3,7 +3,9 @@ use Prim.Native.Nat.{ℕ, _*_}
 use mathlib.Core.Bool.{cond}
 use mathlib.Core.List.{List, [], _++_}
 use lib.Dec.{eqb}
-use Rattle.render_texts.specs.Texts.{words, decimal, things, timeText, secondsText, millisecondsOf}
+use Rattle.config.specs.Config.{roundedUp, fadeStep}
+use Rattle.frame.specs.Lasting.{fadeCount}
+use Rattle.render_texts.specs.Texts.{words, decimal, things, timeText, secondsText, tenthsText, millisecondsOf}
 use Rattle.render_texts.specs.declared.Clock.{Clock}
 use Rattle.hex.specs.Hex.{byteAt, wideAt, longAt}
 use Rattle.voice.specs.Voices.{audible}
@@ -67,8 +69,16 @@ outcomeText answer e = cond (eqb (numberIn answer) 0) (voiceText e (voiceIn answ
 unfoldable pub playText : List ℕ → List ℕ → AudioEngine → Clock → List ℕ
 playText l answer e c = timeText c ++ words "play " ++ decimal (wideAt l 1) ++ words " at priority " ++ decimal (byteAt l 10) ++ outcomeText answer e
 
-unfoldable pub fadeText : List ℕ → List ℕ → Clock → List ℕ
-fadeText l answer c = timeText c ++ words "fade to " ++ decimal (wideAt l 1) ++ words " over " ++ decimal (wideAt l 3) ++ words " ms" ++ endText (numberIn answer)
+-- when a fade that begins now will be over: its count of frames, in tenths of a millisecond, rounded up so that it is over by then; at rate 0 it
+-- takes one frame, and there is no time
+unfoldable pub overText : ℕ → ℕ → List ℕ
+overText ms rate =
+    cond (eqb rate 0) (words ": over in 1 frame") (words ": over in " ++ tenthsText (roundedUp (10_000 * fadeCount (fadeStep ms rate)) rate) ++ words " ms")
+
+unfoldable pub fadeText : List ℕ → List ℕ → AudioEngine → Clock → List ℕ
+fadeText l answer e c =
+    timeText c ++ words "fade to " ++ decimal (wideAt l 1) ++ words " over " ++ decimal (wideAt l 3) ++ words " ms"
+    ++ cond (eqb (numberIn answer) 0) (overText (wideAt l 3) (e .state .config .«sample_rate_hz») ++ words "\n") (endText (numberIn answer))
 
 -- a tone of 0 ms never ends
 unfoldable pub lastingText : ℕ → List ℕ
@@ -117,7 +127,7 @@ lineText l answer e c =
     cond (eqb code 0x10) (openText l answer c)
     (cond (eqb code 0x11) (bankText l answer c)
     (cond (eqb code 0x13) (playText l answer e c)
-    (cond (eqb code 0x14) (fadeText l answer c)
+    (cond (eqb code 0x14) (fadeText l answer e c)
     (cond (eqb code 0x15) (toneText l e c)
     (cond (eqb code 0x16) (polyblepText l e c)
     (cond (eqb code 0x19) (stopText c)

@@ -19,6 +19,7 @@ use render_texts::say;
 use render_texts::so_long;
 use render_texts::things;
 use words::ended;
+use words::over;
 use words::sounding;
 use words::voiced;
 
@@ -57,12 +58,18 @@ fn played(l: &[u8], answer: &[u8], e: AudioEngine, c: Clock) -> Text
     ended(asked, number)
 }
 
-fn faded(l: &[u8], answer: &[u8], c: Clock) -> Text
-    ensures { λ r. ⌜ Says (T.fadeText (now (l .entry)) (now (answer .entry)) c) r ⌝ }
+fn faded(l: &[u8], answer: &[u8], e: AudioEngine, c: Clock) -> Text
+    ensures { λ r. ⌜ Says (T.fadeText (now (l .entry)) (now (answer .entry)) e c) r ⌝ }
 {
     let id = count(say(at_time(c), b"fade to "), wide_at(l, 1) as u64);
-    let ms = count(say(id, b" over "), wide_at(l, 3) as u64);
-    ended(say(ms, b" ms"), byte_at(answer, 0))
+    let ms = wide_at(l, 3);
+    let asked = say(count(say(id, b" over "), ms as u64), b" ms");
+    let number = byte_at(answer, 0);
+    if number == 0 {
+        let config = e.config();
+        return say(over(asked, ms, config.sample_rate_hz), b"\n");
+    }
+    ended(asked, number)
 }
 
 fn tone_name(t: Text, waveform: u8) -> Text
@@ -153,7 +160,7 @@ pub fn tell(l: &[u8], answer: &[u8], e: AudioEngine, c: Clock) -> Text
         0x10 => opened(l, answer, c),
         0x11 => banked(l, answer, c),
         0x13 => played(l, answer, e, c),
-        0x14 => faded(l, answer, c),
+        0x14 => faded(l, answer, e, c),
         0x15 => toned(l, e, c),
         0x16 => polybleped(l, e, c),
         0x19 => stopped(c),

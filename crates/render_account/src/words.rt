@@ -9,6 +9,7 @@ use mixer::VoiceRead;
 use render_texts::Text;
 use render_texts::count;
 use render_texts::say;
+use render_texts::tenths;
 
 // Why a call is turned down: document 01's numbers in words.
 fn why(t: Text, number: u8) -> Text
@@ -60,6 +61,20 @@ pub(crate) fn voiced(t: Text, e: AudioEngine, voice: u8) -> Text
             got
         }
     }
+}
+
+// When a fade that begins now will be over.
+pub(crate) fn over(t: Text, ms: u16, rate: u32) -> Text
+    ensures { λ r. ⌜ Adds t (T.overText ms rate) r ⌝ }
+{
+    if rate == 0 {
+        return say(t, b": over in 1 frame");
+    }
+    let hz = rate as u64;
+    let step = config::crossfade_step_q8(ms, rate) as u64;
+    let frames = (255 + (step - 1)) / step;
+    let time = (10_000 * frames + (hz - 1)) / hz;
+    say(tenths(say(t, b": over in "), time), b" ms")
 }
 
 fn lasting(t: Text, ms: u16) -> Text

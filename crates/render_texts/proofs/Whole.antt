@@ -8,7 +8,7 @@ use borrow.Author.Tests.{leb-true}
 use lib.Dec.{leb, ltb, eqb}
 use lib.ListN.{length, length-append}
 use lib.Seq.{take-all}
-use Rattle.render_texts.specs.Texts.{words, spelled, decimal, things, secondsText, indent, timeText, millisecondsOf, Says, Tells}
+use Rattle.render_texts.specs.Texts.{words, spelled, decimal, things, secondsText, tenthsText, indent, timeText, millisecondsOf, Says, Tells}
 use Rattle.render_texts.specs.declared.Text.{Text}
 use Rattle.render_texts.specs.declared.Clock.{Clock}
 
@@ -39,6 +39,10 @@ things-within n name =
 pub seconds-within : (ms : ℕ) → length (secondsText ms) ≤ 26
 unfolding secondsText
 seconds-within ms = simp length-append (omega (arith, decimal-within (ms / 1000)))
+
+pub tenths-within : (n : ℕ) → length (tenthsText n) ≤ 22
+unfolding tenthsText
+tenths-within n = simp length-append (omega (arith, decimal-within (n / 10)))
 
 pub time-within : (c : Clock) → length (timeText c) ≤ 32
 unfolding timeText

@@ -38,6 +38,10 @@ millisecondsOf c = cond (eqb (c .rate) 0) 0 (c .frames * 1000 / c .rate)
 unfoldable pub secondsText : ℕ → List ℕ
 secondsText ms = decimal (ms / 1000) ++ (46 ∷ digit (ms / 100) ∷ digit (ms / 10) ∷ digit ms ∷ []) ++ words " s"
 
+-- tenths, as "4.7"
+unfoldable pub tenthsText : ℕ → List ℕ
+tenthsText n = decimal (n / 10) ++ (46 ∷ digit n ∷ [])
+
 -- so that seconds below 100,000 end in one column
 abbrev pub indent : ℕ → List ℕ
 indent ms =

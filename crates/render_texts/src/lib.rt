@@ -90,6 +90,15 @@ fn seconds(t: Text, ms: u64) -> Text
     say(all, b" s")
 }
 
+// Tenths as a number with a digit after the point, as "4.7".
+pub fn tenths(t: Text, n: u64) -> Text
+    ensures { λ r. ⌜ T.Adds t (T.tenthsText n) r ⌝ }
+{
+    let whole = count(t, n / 10);
+    let rest = [b'.', digit(n)];
+    say(whole, &rest)
+}
+
 fn indented(ms: u64) -> Text
     ensures { λ r. ⌜ T.Says (T.indent ms) r ⌝ }
 {

@@ -1,4 +1,4 @@
--- The records 11, 13 to 1D, 2B, 2C, 30 and 62 to 69: the length and the fields that each allows, the call that it makes, and the reply. Fields count
+-- The records 11, 13 to 1D, 2B, 2C, 30, 62 to 69 and 79: the length and the fields that each allows, the call that it makes, and the reply. Fields count
 -- from byte 1 on. Assumes nothing.
 use Prim.Native.Nat.{ℕ, _+_, _*_}
 use mathlib.Core.Bool.{Bool, false, cond, _&&_}
@@ -16,6 +16,7 @@ use Rattle.mixer.specs.declared.Outcome.{Outcome}
 use Rattle.mixer.specs.declared.PanRead.{PanRead}
 use Rattle.mixer.specs.declared.PanRead.the-variants as Q
 use Rattle.frame.specs.Frames.{monoFrame, stereoFrame, dutyFrame}
+use Rattle.frame.specs.Lasting.{framesLeft}
 use Rattle.play.specs.Plays.{played, toldPlay, toned, polyBleped}
 use Rattle.play.specs.Fades.{faded}
 use Rattle.play.specs.declared.PlayOutcome.{PlayOutcome}
@@ -68,7 +69,8 @@ allowed code l =
     (cond (eqb code 0x66) (sizedAs 0 l)
     (cond (eqb code 0x67) (sizedAs 0 l)
     (cond (eqb code 0x68) (sizedAs 0 l)
-    (cond (eqb code 0x69) (sizedAs 1 l) false))))))))))))))))))))))
+    (cond (eqb code 0x69) (sizedAs 1 l)
+    (cond (eqb code 0x79) (sizedAs 0 l) false)))))))))))))))))))))))
 
 -- "number: two digits, 00 where accepted, else the refusal number"
 abbrev pub outcomeReply : Outcome → Reply
@@ -183,6 +185,10 @@ wideSidesCall f = asked (R.WideTwo (ofZ w16 (f .left)) (ofZ w16 (f .right))) (f 
 unfoldable pub wideStereoCall : AudioEngine → Called
 wideStereoCall e = wideSidesCall (wideSides (sidesBox (stereoFrame (e .state))))
 
+-- 79, frames that the fade has left: "2 digits"
+unfoldable pub fadeLeftCall : AudioEngine → Called
+fadeLeftCall e = asked (R.Number (framesLeft (e .state))) e
+
 -- the records from 62 on. 64, 65 and 69 print what the engine holds; 67 is one duty, as 2C is.
 unfoldable pub laterCall : ℕ → List ℕ → List ℕ → AudioEngine → Called
 laterCall code l bytes e =
@@ -193,7 +199,8 @@ laterCall code l bytes e =
     (cond (eqb code 0x66) (sampleCall e)
     (cond (eqb code 0x67) (dutyCall e)
     (cond (eqb code 0x68) (wideStereoCall e)
-    (cond (eqb code 0x69) (asked (R.Voice (byteAt l 1)) e) (asked R.Bad e))))))))
+    (cond (eqb code 0x69) (asked (R.Voice (byteAt l 1)) e)
+    (cond (eqb code 0x79) (fadeLeftCall e) (asked R.Bad e)))))))))
 
 -- by the code. 1B and 30 print what the engine holds.
 unfoldable pub callFor : ℕ → List ℕ → List ℕ → AudioEngine → Called

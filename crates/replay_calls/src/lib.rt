@@ -7,7 +7,7 @@ ghost use Rattle.hex.specs.Hex.{byteAt};
 ghost use Rattle.allocate.specs.Allocation.{toldPlace};
 ghost use Rattle.bank.specs.Entries.{toldEntry};
 ghost use Rattle.engine.specs.Engines.{ValidEngine};
-ghost use Rattle.replay_calls.specs.Calls.{ValidCalled, sizedAs, allowed, outcomeReply, playReply, bankCall, playCall, fadeCall, toneCall, polyBlepCall, panCall, gainCall, stopCall, entryReply, searchCall, placeReply, allocateCall, audibleCall, stereoCall, dutyCall, plainPlayCall, panReply, panReadCall, sampleCall, wideStereoCall, laterCall, callFor, called};
+ghost use Rattle.replay_calls.specs.Calls.{ValidCalled, sizedAs, allowed, outcomeReply, playReply, bankCall, playCall, fadeCall, toneCall, polyBlepCall, panCall, gainCall, stopCall, entryReply, searchCall, placeReply, allocateCall, audibleCall, stereoCall, dutyCall, plainPlayCall, panReply, panReadCall, sampleCall, wideStereoCall, fadeLeftCall, laterCall, callFor, called};
 use allocate::Allocated;
 use bank::EffectEntry;
 use bank::EntryRead;
@@ -84,6 +84,7 @@ fn is_allowed(code: u8, l: &[u8]) -> bool
         0x67 => n == 2,
         0x68 => n == 2,
         0x69 => n == 4,
+        0x79 => n == 2,
         _ => false,
     }
 }
@@ -354,6 +355,17 @@ fn wide_stereo_call(e: AudioEngine) -> Called
     }
 }
 
+fn fade_left_call(e: AudioEngine) -> Called
+    requires { ⌜ ValidEngine e ⌝ }
+    ensures { λ r. ⌜ Made ValidCalled (fadeLeftCall e) r ⌝ }
+{
+    let left = e.fade_frames_left() as u64;
+    Called {
+        reply: Reply::Number(left),
+        engine: e,
+    }
+}
+
 // The records from 62 on.
 fn later_call(code: u8, l: &[u8], bytes: &[u8], e: AudioEngine) -> Called
     requires { ⌜ ValidEngine e ⌝ }
@@ -377,6 +389,7 @@ fn later_call(code: u8, l: &[u8], bytes: &[u8], e: AudioEngine) -> Called
             reply: Reply::Voice(byte_at(l, 1)),
             engine: e,
         },
+        0x79 => fade_left_call(e),
         _ => Called {
             reply: Reply::Bad,
             engine: e,

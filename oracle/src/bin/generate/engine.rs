@@ -1,25 +1,29 @@
 //! Scripts of an engine, by name: those without frames and those with them.
 
 use crate::enginebad::{self, ENGINE, FRAMES};
+use crate::plays::{self, Among};
 use crate::script::Script;
-use crate::{banks, drift, plays};
+use crate::{banks, drift};
 
 type Print = fn(&mut Script, u64, u64);
 
 pub const NAMES: [(&str, Print); 3] = [
     ("banks", banks::print),
     ("plays", |script, seed, count| {
-        plays::print(script, seed, count, false)
+        plays::print(script, seed, count, Among::Nothing)
     }),
     ("enginebad", |script, seed, count| {
         enginebad::print(script, seed, count as u32, &ENGINE, &ENGINE)
     }),
 ];
 
-pub const FRAME_NAMES: [(&str, Print); 3] = [
+pub const FRAME_NAMES: [(&str, Print); 4] = [
     ("drift", drift::print),
     ("frames", |script, seed, count| {
-        plays::print(script, seed, count, true)
+        plays::print(script, seed, count, Among::Frames)
+    }),
+    ("fades", |script, seed, count| {
+        plays::print(script, seed, count, Among::Fades)
     }),
     ("framebad", |script, seed, count| {
         let all = [&ENGINE[..], &FRAMES].concat();
@@ -38,8 +42,16 @@ pub fn print(script: &mut Script, name: &str, seed: u64, count: u64) -> Option<(
 /// For the recorded list: small banks and a few hundred records, with frames or without.
 pub fn recorded(script: &mut Script, frames: bool) {
     banks::print(script, 0, 14);
+    let among = if frames {
+        Among::Frames
+    } else {
+        Among::Nothing
+    };
     for seed in [2, 5] {
-        plays::print(script, seed, 250, frames);
+        plays::print(script, seed, 250, among);
+    }
+    if frames {
+        plays::print(script, 3, 500, Among::Fades);
     }
     script.ends_with_newline = true;
 }

@@ -20,10 +20,18 @@ enum Priorities {
     Rising,
 }
 
+/// What a run has among its calls: no frames, frames, or frames and many fades, with what is left of them after every record.
+#[derive(Clone, Copy, PartialEq)]
+pub enum Among {
+    Nothing,
+    Frames,
+    Fades,
+}
+
 struct Plays<'a> {
     script: &'a mut Script,
     draw: Draw,
-    frames: bool,
+    among: Among,
     voices: u8,
     priorities: Priorities,
     requests: u8,
@@ -31,7 +39,8 @@ struct Plays<'a> {
 }
 
 /// About `count` records, after document 01's examples.
-pub fn print(script: &mut Script, seed: u64, count: u64, frames: bool) {
+pub fn print(script: &mut Script, seed: u64, count: u64, among: Among) {
+    script.after_each = (among == Among::Fades).then_some(0x79);
     examples(script);
     let end = script.lines + count;
     let mut draw = Draw::new(seed);
@@ -39,7 +48,7 @@ pub fn print(script: &mut Script, seed: u64, count: u64, frames: bool) {
     let mut plays = Plays {
         script,
         draw,
-        frames,
+        among,
         voices: ((seed * 5) % (MOST_VOICES as u64 + 1)) as u8,
         priorities: Priorities::Few,
         requests: 0,
@@ -50,6 +59,7 @@ pub fn print(script: &mut Script, seed: u64, count: u64, frames: bool) {
         plays.step();
     }
     plays.script.record(0x30, &[]);
+    plays.script.after_each = None;
     plays.script.ends_with_newline = seed.is_multiple_of(2);
 }
 
@@ -105,8 +115,10 @@ impl<'a> Plays<'a> {
     ];
 
     fn step(&mut self) {
-        if self.frames && self.draw.one_in(2) {
+        if self.among != Among::Nothing && self.draw.one_in(2) {
             self.frame();
+        } else if self.among == Among::Fades && self.draw.one_in(4) {
+            self.fade();
         } else {
             let all: u32 = Self::STEPS.iter().map(|step| step.0).sum();
             let mut place = self.draw.below(all);
@@ -117,7 +129,7 @@ impl<'a> Plays<'a> {
             });
             chosen.expect("a step of the list").1(self);
         }
-        let dumps = if self.frames { 2 } else { 4 };
+        let dumps = if self.among == Among::Nothing { 4 } else { 2 };
         if !self.draw.one_in(dumps) {
             self.script.record(0x30, &[]);
         }

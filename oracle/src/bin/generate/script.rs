@@ -92,6 +92,8 @@ pub struct Script {
     pub ends_with_newline: bool,
     /// How many lines it has so far.
     pub lines: u64,
+    /// A record without fields that comes after every other one.
+    pub after_each: Option<u8>,
 }
 
 impl Script {
@@ -100,10 +102,18 @@ impl Script {
             out: BufWriter::with_capacity(1 << 16, stdout()),
             ends_with_newline: true,
             lines: 0,
+            after_each: None,
         }
     }
 
     pub fn add(&mut self, line: &[u8]) {
+        self.line(line);
+        if let Some(code) = self.after_each {
+            self.line(&record(code, &[]));
+        }
+    }
+
+    fn line(&mut self, line: &[u8]) {
         if self.lines > 0 {
             self.write(b"\n");
         }

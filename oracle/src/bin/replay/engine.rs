@@ -33,7 +33,7 @@ struct Records<const N: usize>;
 
 impl<const N: usize> Records<N> {
     /// Code, number of bytes after it, and what answers it.
-    const ALL: [(u8, usize, Answer<N>); 34] = [
+    const ALL: [(u8, usize, Answer<N>); 35] = [
         (0x11, 6, set_bank),
         (0x13, 10, play),
         (0x14, 11, fade),
@@ -68,6 +68,7 @@ impl<const N: usize> Records<N> {
         (0x67, 0, frames::one_pwm),
         (0x68, 0, frames::one_wide_stereo),
         (0x69, 1, voice),
+        (0x79, 0, fade_left),
     ];
 }
 
@@ -227,6 +228,10 @@ fn voice<const N: usize>(engine: &mut Engine<N>, call: &mut Call) -> Answered {
     }
     call.answers.end_line();
     Ok(())
+}
+
+fn fade_left<const N: usize>(engine: &mut Engine<N>, call: &mut Call) -> Answered {
+    call.answers.line(engine.fade_frames_left(), 2)
 }
 
 fn dump<const N: usize>(engine: &mut Engine<N>, call: &mut Call) -> Answered {

@@ -1,13 +1,14 @@
 # make               proves and builds the programs, and renders a school's day to target/day.wav
 # make test          all that the gate runs
 # make differential  the long comparison with the Rust original
+# make drift         how far the float pitch drifts, measured on the running programs (docs/PITCH.md)
 # make edits         every must-fail edit, those of the gate and the others
 # make pictures      docs/pictures, and the table of docs/LENGTHS.md, made anew from the program's answers
 # make hosts         the static library, tested from C and from Rust
 # make mutants       the mutation run (docs/MUTANTS.md)
 # make bench         the comparison with it in speed (docs/SPEED.md); it takes minutes and belongs to no gate
 
-.PHONY: main test differential hosts mutants bench edits pictures oracle-tests record
+.PHONY: main test differential drift hosts mutants bench edits pictures oracle-tests record
 
 main:
 	tools/prove
@@ -19,6 +20,10 @@ test:
 differential:
 	tools/prove replay
 	tools/differential long target/bin/replay frames
+
+drift:
+	tools/prove replay
+	tools/drift target/bin/replay
 
 hosts:
 	tools/hosts

@@ -48,6 +48,11 @@ pub mod polyblep {
         }
     }
 
+    /// Where a voice stands in its turn.
+    pub fn phase_of(voice: &PolyBlepVoice) -> f32 {
+        voice.osc.phase
+    }
+
     /// A voice that sounds without end from a phase on; the rest is a new voice's.
     pub fn voice_at(phase: f32, phase_inc: f32, waveform: PolyBlepWaveform) -> PolyBlepVoice {
         let mut voice = PolyBlepVoice::new();

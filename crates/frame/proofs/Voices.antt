@@ -43,7 +43,7 @@ advanced-n m = go (m .«crossfade_active») (eqb (nextT m) 255)
     go false e = refl
 
 -- all are ticked, the first k sampled
-framed-at : (m : Mixer) (k i : ℕ) → i < m .n → i < length (m .voices) → voiceAt (sampled k (enveloped m)) i ≡ framed (ltb i k) (voiceAt m i)
+pub framed-at : (m : Mixer) (k i : ℕ) → i < m .n → i < length (m .voices) → voiceAt (sampled k (enveloped m)) i ≡ framed (ltb i k) (voiceAt m i)
 unfolding enveloped sampled
 framed-at m k i h l = by-test (ltb i k) refl
   where

@@ -58,9 +58,13 @@ withWaveform o waveform = oscillator (o .phase) (o .«phase_inc») waveform (o .
 unfoldable pub atStart : PolyBlepOscillator → PolyBlepOscillator
 atStart o = oscillator (lit 0 1) (o .«phase_inc») (o .waveform) (o .«freq_hz») (o .«sample_rate_hz»)
 
+-- the sample after the phase x completes a turn
+abbrev pub completes : Float → Float → Bool
+completes x d = le (lit 1 1) (x ⊕ d)
+
 -- the phase one sample later
 unfoldable pub advance : Float → Float → Float
-advance x d = let p = x ⊕ d in cond (le (lit 1 1) p) (p ⊖ lit 1 1) p
+advance x d = let p = x ⊕ d in cond (completes x d) (p ⊖ lit 1 1) p
 
 unfoldable pub advanced : PolyBlepOscillator → PolyBlepOscillator
 advanced o = oscillator (advance (o .phase) (o .«phase_inc»)) (o .«phase_inc») (o .waveform) (o .«freq_hz») (o .«sample_rate_hz»)

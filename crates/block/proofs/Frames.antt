@@ -386,14 +386,14 @@ pub stereo-ending : (m : Mixer) → Ends m → stereoFrame m ≡ stereoFrame (fa
 unfolding stereoFrame
 stereo-ending m h = rw (advanced-ending m h)
 
--- frames from two states whose first frames are the same
-module _ {Frame : Type 0} (frame : Mixer → Frame) (next : Frame → Mixer) (a b : Mixer) (e : frame a ≡ frame b) where
-  pub frames-same : (k : ℕ) → frame (after (λ m. next (frame m)) k a) ≡ frame (after (λ m. next (frame m)) k b)
-  unfolding after
-  frames-same zero = e
-  frames-same (suc k) = rw e
-
-  pub after-same : (k : ℕ) → 0 < k → after (λ m. next (frame m)) k a ≡ after (λ m. next (frame m)) k b
+-- frames from two states from which the first step is the same
+module _ (step : Mixer → Mixer) (a b : Mixer) (e : step a ≡ step b) where
+  pub after-same : (k : ℕ) → 0 < k → after step k a ≡ after step k b
   unfolding after
   after-same zero h = absurd (omega arith)
   after-same (suc k) h = rw e
+
+  pub samples-same : (sample : Mixer → ℤ) → sample a ≡ sample b → (k : ℕ) → sample (after step k a) ≡ sample (after step k b)
+  unfolding after
+  samples-same sample s zero = s
+  samples-same sample s (suc k) = rw e

@@ -4,10 +4,10 @@ use native.Mathlib.Nat.{lt-mul-div-succ, mul-div-le, mul-comm, mul-suc, mul-le-m
 use native.Mathlib.Numerals.{add-one}
 use native.Mathlib.Omega.{arith}
 use mathlib.Core.Path.{_≡_, refl, sym, ap, _∙_}
-use mathlib.Core.Bool.{true, false}
-use mathlib.Core.List.{List, [], _∷_, _++_}
+use mathlib.Core.Bool.{Bool, true, false}
+use mathlib.Core.List.{List, [], _∷_}
 use lib.IntN.{ℤ, pos}
-use lib.ListN.{length, getD, drop, set}
+use lib.ListN.{length, getD, set}
 use lib.Seq.{set-comm, set-set, getD-set-other}
 use Rattle.frame.specs.Fades.{takenOver, fadeEnded, fadeAt}
 use Rattle.frame.specs.Frames.{monoFrame, stereoFrame}
@@ -16,6 +16,7 @@ use Rattle.frame.specs.declared.MonoFrame.{MonoFrame}
 use Rattle.frame.specs.declared.StereoFrame.{StereoFrame}
 use Rattle.frame.proofs.Laws.{valid-mono, valid-stereo}
 use Rattle.laws.specs.Lists.{mapFirst}
+use Rattle.laws.proofs.Bools.{never}
 use Rattle.laws.specs.Runs.{after, given}
 use Rattle.laws.proofs.Lists.{mapFirst-step, getD-any}
 use Rattle.laws.proofs.Runs.{after-parts}
@@ -23,11 +24,11 @@ use Rattle.mixer.specs.Mixers.{Valid}
 use Rattle.mixer.specs.declared.Mixer.{Mixer}
 use Rattle.voice.specs.Voices.{silentVoice, stoppedVoice}
 use Rattle.voice.specs.declared.Voice.{Voice}
-use Rattle.block.specs.Blocks.{MonoBlock, StereoBlock}
-use Rattle.block.specs.Parts.{Slow, FadeFrames, MonoPart, StereoPart, frameAt, pace}
+use Rattle.block.specs.Blocks.{stepOf, leftOf, front, rightCells, Block}
+use Rattle.block.specs.Parts.{Slow, FadeFrames, RightPart, Part, frameAt, pace}
 use Rattle.block.specs.Cells.{Written}
 use Rattle.block.proofs.Cells.{written-both, written-whole, written-as}
-use Rattle.block.proofs.Frames.{given-at, given-length, moved, runAll, runPair, Pair, after-pair, after-stereo, Ends, mono-ending, stereo-ending, frames-same, after-same}
+use Rattle.block.proofs.Frames.{given-at, given-length, moved, runAll, runPair, after-pair, after-stereo, Ends, mono-ending, stereo-ending, after-same, samples-same}
 
 valid-run : (step : Mixer → Mixer) → ((m : Mixer) → Valid m → Valid (step m)) → (k : ℕ) (m : Mixer) → Valid m → Valid (after step k m)
 unfolding after
@@ -98,114 +99,101 @@ ended-is m d first second h e f =
     rw (e, f, getD-any (m .voices) 0 d (silentVoice 0) (omega arith), getD-any (m .voices) 1 d (silentVoice 0) (omega arith))
 
 -- ---- how far a fade goes
-pub fade-frames : (t step len most r : ℕ) → t ≤ 254 → 1 ≤ step → most ≡ (254 - t) / step → r ≡ min most len → FadeFrames t step len r
-fade-frames t step len most r h s e f =
+pub fade-frames : {active : Bool} (t step len most r : ℕ) → active ≡ true → t ≤ 254 → 1 ≤ step → most ≡ (254 - t) / step → r ≡ min most len → FadeFrames active t step len r
+fade-frames t step len most r q h s e f =
     let up : 254 - t < step * (most + 1) = rw e (lt-mul-div-succ (254 - t) {b = step} (omega arith)) in
     let low : step * most ≤ 254 - t = rw e (mul-div-le (254 - t) step) in
     let a = mul-comm step most in
     let b = mul-le-mul-right {m = r} {n = most} step (omega arith) in
     let c : step * (most + 1) ≡ step * most + step = rw (add-one, mul-suc) in
-    record { most = omega arith; goes = λ z. omega arith; ends = λ z. (let g : r ≡ most = omega arith in rw g (omega arith)) }
+    record { most = omega arith; goes = λ x z. omega arith; ends = λ z. (q, (let g : r ≡ most = omega arith in rw g (omega arith))) }
 
 -- ---- a block in one part or two, of frames of either kind
-module _ {Frame : Type 0} (frame : Mixer → Frame) (next : Frame → Mixer) where
+module _ (step : Mixer → Mixer) where
   -- one part from cell 0 on
-  pub cells-whole : (sample : Frame → ℤ) (m : Mixer) (n : ℕ) {was is : List ℤ} → n ≤ 256 → length was ≡ 256
-      → Written (pos 0) (frameAt (λ m. next (frame m)) (λ m. sample (frame m)) m 0) 0 (0 + n) was is
-      → is ≡ given (λ m. next (frame m)) (λ m. sample (frame m) ∷ []) n m ++ drop n was
+  cells-whole : (sample : Mixer → ℤ) (m : Mixer) (n : ℕ) {was is : List ℤ} → n ≤ 256 → length was ≡ 256
+      → Written (pos 0) (frameAt step sample m 0) 0 (0 + n) was is → is ≡ front step sample n m was
   cells-whole sample m n l e c =
-      let step : Mixer → Mixer = λ m. next (frame m) in
       let z : 0 + n ≡ n = omega arith in
-      written-whole (given step (λ m. sample (frame m) ∷ []) n m) (rw z at c) (omega arith) (given-length step (λ m. sample (frame m)) n m)
-      (λ j h. given-at step (λ m. sample (frame m)) n j m (pos 0) h ∙ ap (λ (k : ℕ). sample (frame (after step k m))) (omega arith))
+      written-whole (given step (λ m. sample m ∷ []) n m) (rw z at c) (omega arith) (given-length step sample n m)
+      (λ j h. given-at step sample n j m (pos 0) h ∙ ap (λ (k : ℕ). sample (after step k m)) (omega arith))
 
-  -- a second part, from a state whose first frame is the frame that follows the first part
-  module _ (m b : Mixer) (f n : ℕ) (l : f ≤ n) (e : frame (after (λ m. next (frame m)) f m) ≡ frame b) where
-    pub cells-both : (sample : Frame → ℤ) {was mid is : List ℤ} → Written (pos 0) (frameAt (λ m. next (frame m)) (λ m. sample (frame m)) m 0) 0 (0 + f) was mid
-        → Written (pos 0) (frameAt (λ m. next (frame m)) (λ m. sample (frame m)) b f) f (f + (n - f)) mid is
-        → Written (pos 0) (frameAt (λ m. next (frame m)) (λ m. sample (frame m)) m 0) 0 (0 + n) was is
-    cells-both sample v w =
-        let step : Mixer → Mixer = λ m. next (frame m) in
+  -- a second part, from a state whose first step is the one that follows the first part
+  module _ (m b : Mixer) (f n : ℕ) (l : f < n) (e : step (after step f m) ≡ step b) where
+    cells-both : (sample : Mixer → ℤ) {was mid is : List ℤ} → sample (after step f m) ≡ sample b → Written (pos 0) (frameAt step sample m 0) 0 (0 + f) was mid
+        → Written (pos 0) (frameAt step sample b f) f (f + (n - f)) mid is → Written (pos 0) (frameAt step sample m 0) 0 (0 + n) was is
+    cells-both sample s v w =
         let y : 0 + f ≡ f = omega arith in
         let z : f + (n - f) ≡ 0 + n = omega arith in
         written-both (rw y at v)
         (rw z at
-        (written-as {g = frameAt step (λ m. sample (frame m)) m 0} (λ j h k.
+        (written-as {g = frameAt step sample m 0} (λ j h k.
         (let p : j - 0 ≡ f + (j - f) = omega arith in
-        ap sample (sym (frames-same frame next (after step f m) b e (j - f))) ∙ rw (p, after-parts step f (j - f) m))) w))
+        sym (samples-same step (after step f m) b e sample s (j - f)) ∙ rw (p, after-parts step f (j - f) m))) w))
         (omega arith) (omega arith)
 
-    pub state-both : f < n → after (λ m. next (frame m)) n m ≡ after (λ m. next (frame m)) (n - f) b
-    state-both h =
-        let step : Mixer → Mixer = λ m. next (frame m) in
+    state-both : after step n m ≡ after step (n - f) b
+    state-both =
         let z : n ≡ f + (n - f) = omega arith in
-        ap (λ (k : ℕ). after step k m) z ∙ after-parts step f (n - f) m ∙ after-same frame next (after step f m) b e (n - f) (omega arith)
+        ap (λ (k : ℕ). after step k m) z ∙ after-parts step f (n - f) m ∙ after-same step (after step f m) b e (n - f) (omega arith)
 
--- ---- the frame after the first part of a block in which the fade ends
-pub part-ends : (m : Mixer) (vs : List Voice) (f n : ℕ) → m .«crossfade_active» ≡ true → FadeFrames (m .«crossfade_t_q8») (m .«crossfade_step_q8») n f → f < n
-    → Ends (moved m vs (m .«crossfade_t_q8» + f * pace m))
-unfolding fadeAt
-part-ends m vs f n a h l = record { active = a; last = rw a (h .ends l) }
+-- a frame in which the fade ends is the frame of the state with the fade ended
+record Joins (sides : Bool) (x b : Mixer) : Type 0 where
+  step : stepOf sides x ≡ stepOf sides b
+  left : leftOf sides x ≡ leftOf sides b
+  right : sides ≡ true → stereoFrame x .right ≡ stereoFrame b .right
 
--- the frame that follows the first part is the first of the state with the fade ended
-module _ (m a : Mixer) (f n : ℕ) (v : Valid m) (q : m .«crossfade_active» ≡ true) (h : FadeFrames (m .«crossfade_t_q8») (m .«crossfade_step_q8») n f) where
+joins : (sides : Bool) (x : Mixer) → Ends x → Joins sides x (fadeEnded x)
+joins true x h =
+    let e = stereo-ending x h in
+    record { step = ap (λ (f : StereoFrame). f .mixer) e; left = ap (λ (f : StereoFrame). f .left) e; right = λ z. ap (λ (f : StereoFrame). f .right) e }
+joins false x h =
+    let e = mono-ending x h in
+    record { step = ap (λ (f : MonoFrame). f .mixer) e; left = ap (λ (f : MonoFrame). f .pcm) e; right = λ z. never z }
+
+-- the first part of a block in which a fade ends
+module _ (m : Mixer) (f n : ℕ) (v : Valid m) (h : FadeFrames (m .«crossfade_active») (m .«crossfade_t_q8») (m .«crossfade_step_q8») n f) where
   pub slow-part : Slow m f
-  slow-part x z = h .goes z
+  slow-part x z = h .goes x z
 
-  pub two-voices : Pair (m .n) (m .voices) (m .«crossfade_active»)
-  two-voices = let k = v .fade q .0 in (q, k, omega (arith, v .full))
-
-  pub mono-active : a ≡ after monoStep f m → a .«crossfade_active» ≡ true
+  part-ends : (vs : List Voice) → f < n → Ends (moved m vs (m .«crossfade_t_q8» + f * pace m))
   unfolding fadeAt
-  mono-active e = rw (e, after-pair f m two-voices slow-part) q
+  part-ends vs l = record { active = h .ends l .0; last = rw (h .ends l .0) (h .ends l .1) }
 
-  pub stereo-active : a ≡ after stereoStep f m → a .«crossfade_active» ≡ true
-  unfolding fadeAt
-  stereo-active e = rw (e, after-stereo f m slow-part) q
+  -- the next frame ends it
+  pub next-ends : (sides : Bool) → f < n → Ends (after (stepOf sides) f m)
+  next-ends true l = rw (after-stereo f m slow-part) (part-ends (runAll f (m .n) (m .voices)) l)
+  next-ends false l =
+      let q = h .ends l .0 in
+      let k = v .fade q .0 in
+      rw (after-pair f m (q, k, omega (arith, v .full)) slow-part) (part-ends (runPair f (m .n) (m .voices)) l)
 
-  mono-joins : (b : Mixer) → b ≡ fadeEnded a → f < n → a ≡ after monoStep f m → monoFrame (after monoStep f m) ≡ monoFrame b
-  mono-joins b d l e =
-      let k : Ends (after monoStep f m) = rw (after-pair f m two-voices slow-part) (part-ends m (runPair f (m .n) (m .voices)) f n q h l) in
-      mono-ending (after monoStep f m) k ∙ rw (d, e)
+  right-both : (sides : Bool) (b : Mixer) (was mid is : List ℤ) → f < n → Joins sides (after (stepOf sides) f m) b → RightPart sides m 0 f was mid → RightPart sides b f (n - f) mid is
+      → RightPart sides m 0 n was is
+  right-both true b was mid is l j x y = cells-both stereoStep m b f n l (j .step) (λ m. stereoFrame m .right) (j .right refl) x y
+  right-both false b was mid is l j x y = y ∙ x
 
-  stereo-joins : (b : Mixer) → b ≡ fadeEnded a → f < n → a ≡ after stereoStep f m → stereoFrame (after stereoStep f m) ≡ stereoFrame b
-  stereo-joins b d l e =
-      let k : Ends (after stereoStep f m) = rw (after-stereo f m slow-part) (part-ends m (runAll f (m .n) (m .voices)) f n q h l) in
-      stereo-ending (after stereoStep f m) k ∙ rw (d, e)
-
-  pub mono-two : {b r : Mixer} {was mid is : List ℤ} → b ≡ fadeEnded a → f < n → MonoPart m 0 f was a mid → MonoPart b f (n - f) mid r is → MonoPart m 0 n was r is
-  mono-two {b = b} d l x y =
-      let e = mono-joins b d l (x .mixer .same) in
-      let next : MonoFrame → Mixer = λ f. f .mixer in
+  -- both parts
+  pub part-two : {sides : Bool} {a b r : Mixer} {lw rr lm rm li ri : List ℤ} → b ≡ fadeEnded a → f < n → Part sides m 0 f lw rr a lm rm → Part sides b f (n - f) lm rm r li ri
+      → Part sides m 0 n lw rr r li ri
+  part-two {sides} {a} {b} {r} {lw} {rr} {lm} {rm} {li} {ri} d l x y =
+      let j : Joins sides (after (stepOf sides) f m) b = rw (d, x .mixer .same) (joins sides (after (stepOf sides) f m) (next-ends sides l)) in
       record {
-        mixer = record { same = y .mixer .same ∙ sym (state-both monoFrame next m b f n (omega arith) e l); valid = y .mixer .valid };
-        cells = cells-both monoFrame next m b f n (omega arith) e (λ f. f .pcm) (x .cells) (y .cells);
+        mixer = record { same = y .mixer .same ∙ sym (state-both (stepOf sides) m b f n l (j .step)); valid = y .mixer .valid };
+        left = cells-both (stepOf sides) m b f n l (j .step) (leftOf sides) (j .left) (x .left) (y .left);
+        right = right-both sides b rr rm ri l j (x .right) (y .right);
       }
 
-  pub stereo-two : {b r : Mixer} {lw rr lm rm li ri : List ℤ} → b ≡ fadeEnded a → f < n → StereoPart m 0 f lw rr a lm rm → StereoPart b f (n - f) lm rm r li ri → StereoPart m 0 n lw rr r li ri
-  stereo-two {b = b} d l x y =
-      let e = stereo-joins b d l (x .mixer .same) in
-      let next : StereoFrame → Mixer = λ f. f .mixer in
-      record {
-        mixer = record { same = y .mixer .same ∙ sym (state-both stereoFrame next m b f n (omega arith) e l); valid = y .mixer .valid };
-        left = cells-both stereoFrame next m b f n (omega arith) e (λ f. f .left) (x .left) (y .left);
-        right = cells-both stereoFrame next m b f n (omega arith) e (λ f. f .right) (x .right) (y .right);
-      }
+pub right-size : (sides : Bool) (m : Mixer) (at len : ℕ) (was is : List ℤ) → RightPart sides m at len was is → length is ≡ length was
+right-size true m at len was is p = p .size
+right-size false m at len was is p = ap length p
+
+right-whole : (sides : Bool) (m : Mixer) (n : ℕ) (was is : List ℤ) → n ≤ 256 → length was ≡ 256 → RightPart sides m 0 n was is → is ≡ rightCells sides n m was
+right-whole true m n was is l e p = cells-whole stereoStep (λ m. stereoFrame m .right) m n l e p
+right-whole false m n was is l e p = p
 
 -- a part from cell 0 on is the block
-pub mono-whole : {m r : Mixer} {n k : ℕ} {was is : List ℤ} → n ≡ k → n ≤ 256 → length was ≡ 256 → MonoPart m 0 n was r is → MonoBlock m k was r is
-mono-whole {m = m} {n = n} e l f p =
-    let next : MonoFrame → Mixer = λ f. f .mixer in
-    rw (← e) (record { mixer = p .mixer; cells = cells-whole monoFrame next (λ f. f .pcm) m n l f (p .cells) })
-
-pub stereo-whole : {m r : Mixer} {n k : ℕ} {lw rr li ri : List ℤ} → n ≡ k → n ≤ 256 → length lw ≡ 256 → length rr ≡ 256 → StereoPart m 0 n lw rr r li ri
-    → StereoBlock m k lw rr r li ri
-stereo-whole {m = m} {n = n} e l f g p =
-    let next : StereoFrame → Mixer = λ f. f .mixer in
-    rw (← e) (
-    record {
-      mixer = p .mixer;
-      left = cells-whole stereoFrame next (λ f. f .left) m n l f (p .left);
-      right = cells-whole stereoFrame next (λ f. f .right) m n l g (p .right);
-    }
-    )
+pub part-whole : {sides : Bool} {m r : Mixer} {n k : ℕ} {lw rr li ri : List ℤ} → n ≡ k → n ≤ 256 → length lw ≡ 256 → length rr ≡ 256 → Part sides m 0 n lw rr r li ri
+    → Block sides m k lw rr r li ri
+part-whole {sides} {m} {r} {n} {k} {lw} {rr} {li} {ri} e l f g p =
+    rw (← e) (record { mixer = p .mixer; left = cells-whole (stepOf sides) (leftOf sides) m n l f (p .left); right = right-whole sides m n rr ri l g (p .right) })

@@ -1,7 +1,7 @@
 -- Inner: a block in parts, as the code cuts it. Assumes nothing.
 use Prim.Native.Nat.{ℕ, _+_, _-_, _*_, _≤_, _<_}
 use mathlib.Core.Path.{_≡_}
-use mathlib.Core.Bool.{true, cond}
+use mathlib.Core.Bool.{Bool, true, false, cond}
 use mathlib.Core.List.{List}
 use lib.IntN.{ℤ, pos}
 use lib.ListN.{set}
@@ -14,6 +14,7 @@ use Rattle.laws.specs.Runs.{after}
 use Rattle.mixer.specs.Mixers.{Valid, withVoices}
 use Rattle.mixer.specs.declared.Mixer.{Mixer}
 use Rattle.voice.specs.Voices.{tickedVoice}
+use Rattle.block.specs.Blocks.{stepOf, leftOf}
 use Rattle.block.specs.Cells.{Written}
 
 -- ---- a part of a block: its len frames stand from cell `at` on
@@ -26,10 +27,15 @@ pub record MonoPart (m : Mixer) (at len : ℕ) (was : List ℤ) (r : Mixer) (is 
   pub mixer : Made Valid (after monoStep len m) r
   pub cells : Written (pos 0) (frameAt monoStep (λ m. monoFrame m .pcm) m at) at (at + len) was is
 
-pub record StereoPart (m : Mixer) (at len : ℕ) (leftWas rightWas : List ℤ) (r : Mixer) (leftIs rightIs : List ℤ) : Type 0 where
-  pub mixer : Made Valid (after stereoStep len m) r
-  pub left : Written (pos 0) (frameAt stereoStep (λ m. stereoFrame m .left) m at) at (at + len) leftWas leftIs
-  pub right : Written (pos 0) (frameAt stereoStep (λ m. stereoFrame m .right) m at) at (at + len) rightWas rightIs
+-- the right side's cells, which mono frames leave alone
+abbrev pub RightPart : Bool → Mixer → ℕ → ℕ → List ℤ → List ℤ → Type 0
+RightPart true m at len was is = Written (pos 0) (frameAt stereoStep (λ m. stereoFrame m .right) m at) at (at + len) was is
+RightPart false m at len was is = is ≡ was
+
+pub record Part (sides : Bool) (m : Mixer) (at len : ℕ) (leftWas rightWas : List ℤ) (r : Mixer) (leftIs rightIs : List ℤ) : Type 0 where
+  pub mixer : Made Valid (after (stepOf sides) len m) r
+  pub left : Written (pos 0) (frameAt (stepOf sides) (leftOf sides) m at) at (at + len) leftWas leftIs
+  pub right : RightPart sides m at len rightWas rightIs
 
 -- ---- the fade in a block
 
@@ -37,11 +43,11 @@ pub record StereoPart (m : Mixer) (at len : ℕ) (leftWas rightWas : List ℤ) (
 abbrev pub Slow : Mixer → ℕ → Type 0
 Slow m len = m .«crossfade_active» ≡ true → 0 < len → m .«crossfade_t_q8» + len * m .«crossfade_step_q8» < 255
 
--- of len frames the first r leave the fade going on, and the next ends it
-pub record FadeFrames (t step len r : ℕ) : Type 0 where
+-- of len frames the first r end no fade, and the next ends one
+pub record FadeFrames (active : Bool) (t step len r : ℕ) : Type 0 where
   pub most : r ≤ len
-  pub goes : 0 < r → t + r * step < 255
-  pub ends : r < len → 255 ≤ t + r * step + step
+  pub goes : active ≡ true → 0 < r → t + r * step < 255
+  pub ends : r < len → (active ≡ true) × (255 ≤ t + r * step + step)
 
 -- what a frame adds to t
 abbrev pub pace : Mixer → ℕ

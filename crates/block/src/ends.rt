@@ -10,16 +10,21 @@ ghost use Rattle.block.specs.Parts.{FadeFrames, Slow, movedOn, restedOth
 use mixer::Mixer;
 use voice::Voice;
 
-// How many of len frames the fade goes on after: it ends in the frame that takes t to 255.
-pub fn fade_frames(t: u8, step: u8, len: usize) -> usize
-    requires { ⌜ 1 ≤ step ⌝ }
-    ensures { λ r. ⌜ FadeFrames t step len r ⌝ }
+// How many of len frames come before a fade's end, which is in the frame that takes t to 255: all, outside a fade.
+pub fn fade_frames(active: bool, t: u8, step: u8, len: usize) -> usize
+    requires { ⌜ (active ≡ true → 1 ≤ step) ⌝ }
+    ensures { λ r. ⌜ FadeFrames active t step len r ⌝ }
 {
-    if t == 255 {
-        return 0;
+    if active {
+        if t == 255 {
+            return 0;
+        }
+        let most = ((254 - t) / step) as usize;
+        if most < len {
+            return most;
+        }
     }
-    let most = ((254 - t) / step) as usize;
-    if most < len { most } else { len }
+    len
 }
 
 fn taken_over(old: Voice, new: Voice) -> Voice

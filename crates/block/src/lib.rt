@@ -4,8 +4,8 @@ ghost use mathlib.Core.Bool.{true, false};
 ghost use Prim.Native.Nat.{_+_, _≤_, min};
 ghost use lib.ListN.{length};
 ghost use Rattle.mixer.specs.Mixers.{Valid};
-ghost use Rattle.block.specs.Blocks.{MonoBlock, StereoBlock};
-ghost use Rattle.block.specs.Parts.{MonoPart, StereoPart, Slow};
+ghost use Rattle.block.specs.Blocks.{Block};
+ghost use Rattle.block.specs.Parts.{MonoPart, Part, Slow};
 use mixer::Mixer;
 
 mod ends;
@@ -74,7 +74,7 @@ fn fading(m: Mixer, len: usize, out: &mut [i8; 256]) -> Mixer
 // len frames in stereo, in which a fade shows only by its end, written from `at` on.
 fn panned(m: Mixer, at: usize, len: usize, left: &mut [i8; 256], right: &mut [i8; 256]) -> Mixer
     requires { ⌜ Valid m × (at + len ≤ 256) × (length (now left) ≡ 256) × (length (now right) ≡ 256) × Slow m len ⌝ }
-    ensures { λ r. ⌜ StereoPart m at len (now (left .entry)) (now (right .entry)) r (now (left .exit)) (now (right .exit)) ⌝ }
+    ensures { λ r. ⌜ Part true m at len (now (left .entry)) (now (right .entry)) r (now (left .exit)) (now (right .exit)) ⌝ }
 {
     let n = m.n;
     let mut mixed = m;
@@ -98,57 +98,47 @@ fn panned(m: Mixer, at: usize, len: usize, left: &mut [i8; 256], right: &mut [i8
     ends::moved(mixed, len)
 }
 
-// n mono frames from within a fade, and over its end.
-fn mono_fade(m: Mixer, n: usize, out: &mut [i8; 256]) -> Mixer
-    requires { ⌜ Valid m × (m .«crossfade_active» ≡ true) × (n ≤ 256) × (length (now out) ≡ 256) ⌝ }
-    ensures { λ r. ⌜ MonoPart m 0 n (now (out .entry)) r (now (out .exit)) ⌝ }
+// len frames of which none ends a fade, written from `at` on.
+fn steady(
+    m: Mixer,
+    sides: bool,
+    at: usize,
+    len: usize,
+    left: &mut [i8; 256],
+    right: &mut [i8; 256],
+) -> Mixer
+    requires { ⌜ Valid m × (at + len ≤ 256) × (length (now left) ≡ 256) × (length (now right) ≡ 256) × Slow m len × (m .«crossfade_active» ≡ true → at ≡ 0) ⌝ }
+    ensures { λ r. ⌜ Part sides m at len (now (left .entry)) (now (right .entry)) r (now (left .exit)) (now (right .exit)) ⌝ }
 {
-    let f = ends::fade_frames(m.crossfade_t_q8, m.crossfade_step_q8, n);
-    let a = fading(m, f, out);
-    if f < n {
-        let b = ends::ended(a);
-        return plain(b, f, n - f, out);
+    if sides {
+        return panned(m, at, len, left, right);
     }
-    a
-}
-
-// n stereo frames from within a fade, and over its end.
-fn stereo_fade(m: Mixer, n: usize, left: &mut [i8; 256], right: &mut [i8; 256]) -> Mixer
-    requires { ⌜ Valid m × (m .«crossfade_active» ≡ true) × (n ≤ 256) × (length (now left) ≡ 256) × (length (now right) ≡ 256) ⌝ }
-    ensures { λ r. ⌜ StereoPart m 0 n (now (left .entry)) (now (right .entry)) r (now (left .exit)) (now (right .exit)) ⌝ }
-{
-    let f = ends::fade_frames(m.crossfade_t_q8, m.crossfade_step_q8, n);
-    let a = panned(m, 0, f, left, right);
-    if f < n {
-        let b = ends::ended(a);
-        return panned(b, f, n - f, left, right);
-    }
-    a
-}
-
-// len mono frames, 256 at most: `out` takes their samples from the front on.
-pub fn mono_block(m: Mixer, len: usize, out: &mut [i8; 256]) -> Mixer
-    requires { ⌜ Valid m ⌝ }
-    ensures { λ r. ⌜ MonoBlock m (min len 256) (now (out .entry)) r (now (out .exit)) ⌝ }
-{
-    whole(&*out);
-    let n = tone::block_len(len);
     if m.crossfade_active {
-        return mono_fade(m, n, out);
+        return fading(m, len, left);
     }
-    plain(m, 0, n, out)
+    plain(m, at, len, left)
 }
 
-// len stereo frames, 256 at most: `left` and `right` take their samples from the front on.
-pub fn stereo_block(m: Mixer, len: usize, left: &mut [i8; 256], right: &mut [i8; 256]) -> Mixer
+// len frames, 256 at most, in stereo or in mono: `left` takes the samples of the left side, or of the only one, from the front on, and
+// `right` those of the right side.
+pub fn sound(
+    m: Mixer,
+    sides: bool,
+    len: usize,
+    left: &mut [i8; 256],
+    right: &mut [i8; 256],
+) -> Mixer
     requires { ⌜ Valid m ⌝ }
-    ensures { λ r. ⌜ StereoBlock m (min len 256) (now (left .entry)) (now (right .entry)) r (now (left .exit)) (now (right .exit)) ⌝ }
+    ensures { λ r. ⌜ Block sides m (min len 256) (now (left .entry)) (now (right .entry)) r (now (left .exit)) (now (right .exit)) ⌝ }
 {
     whole(&*left);
     whole(&*right);
     let n = tone::block_len(len);
-    if m.crossfade_active {
-        return stereo_fade(m, n, left, right);
+    let f = ends::fade_frames(m.crossfade_active, m.crossfade_t_q8, m.crossfade_step_q8, n);
+    let a = steady(m, sides, 0, f, left, right);
+    if f < n {
+        let b = ends::ended(a);
+        return steady(b, sides, f, n - f, left, right);
     }
-    panned(m, 0, n, left, right)
+    a
 }

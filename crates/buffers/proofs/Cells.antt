@@ -12,14 +12,14 @@ use mir.Syntax.{Width, w8}
 use mir.Val.{SFits, toZ, ofZ}
 use mir.ValLaws.{toZ-ofZ}
 use Rattle.laws.proofs.Lists.{drop-take-cons, drop-take-end}
-use Rattle.output.specs.Duty.{mapped}
 use Rattle.output.specs.declared.Mapped.{Mapped}
 use Rattle.output.specs.declared.PwmMapper.{PwmMapper}
 use Rattle.buffers.specs.Buffers.{toI8}
 use Rattle.buffers.specs.Shapes.{wide}
+use Rattle.buffers.specs.declared.Level.{Level}
 use Rattle.buffers.specs.declared.Shape.{Shape}
 use Rattle.buffers.specs.declared.Shape.the-variants.{Once, Doubled, Sides}
-use Rattle.buffers.specs.Blocks.{pairs, mappedOver, dutiesOver, laid, Laid}
+use Rattle.buffers.specs.Blocks.{pairs, leveled, mapperOver, levelsOver, laid, Laid}
 
 module _ {A : Type 0} (whole out₀ : List A) (at : ℕ) where
   -- of the cells to store from `at` on, those that are left go to cell i and after it
@@ -80,23 +80,23 @@ module _ (ls rs : List ℤ) (n : ℕ) where
   unfolding pairs
   sides-end e p = rw (e, drop-take-end n ls) at (p .left)
 
--- a mapper over samples
-module _ (period : ℕ) (raw : List ℤ) (k : ℕ) {i : ℕ} (p : PwmMapper) where
-  module _ (d : Mapped) (h : i < k) (l : k ≤ length raw) (e : d ≡ mapped p (getD raw i (pos 0)) period) where
-    pub duties-next : dutiesOver period p (drop i (take k raw)) ≡ d .duty ∷ dutiesOver period (d .mapper) (drop (i + 1) (take k raw))
-    unfolding dutiesOver
-    duties-next = rw (drop-take-cons k i raw (pos 0) h l, e)
+-- samples at a level
+module _ (level : Level) (period : ℕ) (raw : List ℤ) (k : ℕ) {i : ℕ} (p : PwmMapper) where
+  module _ (d : Mapped) (h : i < k) (l : k ≤ length raw) (e : d ≡ leveled level period p (getD raw i (pos 0))) where
+    pub levels-next : levelsOver level period p (drop i (take k raw)) ≡ d .duty ∷ levelsOver level period (d .mapper) (drop (i + 1) (take k raw))
+    unfolding levelsOver
+    levels-next = rw (drop-take-cons k i raw (pos 0) h l, e)
 
-    pub mapper-next : mappedOver period (d .mapper) (drop (i + 1) (take k raw)) ≡ mappedOver period p (drop i (take k raw))
-    unfolding mappedOver
+    pub mapper-next : mapperOver level period (d .mapper) (drop (i + 1) (take k raw)) ≡ mapperOver level period p (drop i (take k raw))
+    unfolding mapperOver
     mapper-next = rw (drop-take-cons k i raw (pos 0) h l, e)
 
-  pub duties-none : i ≡ k → dutiesOver period p (drop i (take k raw)) ≡ []
-  unfolding dutiesOver
-  duties-none e = rw (e, drop-take-end k raw)
+  pub levels-none : i ≡ k → levelsOver level period p (drop i (take k raw)) ≡ []
+  unfolding levelsOver
+  levels-none e = rw (e, drop-take-end k raw)
 
-  pub mapper-none : i ≡ k → p ≡ mappedOver period p (drop i (take k raw))
-  unfolding mappedOver
+  pub mapper-none : i ≡ k → p ≡ mapperOver level period p (drop i (take k raw))
+  unfolding mapperOver
   mapper-none e = rw (e, drop-take-end k raw)
 
 -- ---- the samples of a block in the order of its cells
@@ -117,6 +117,11 @@ span-small Once n k e h = omega arith
 span-small Doubled n k e h = omega arith
 span-small Sides n k e h = omega arith
 
+pub span-some : (z : Shape) (n k : ℕ) → k ≡ n * wide z → 0 < n → 0 < k
+span-some Once n k e h = omega arith
+span-some Doubled n k e h = omega arith
+span-some Sides n k e h = omega arith
+
 pub laid-front : (z : Shape) (n k : ℕ) (l r was : List ℤ) {is : List ℤ} → k ≡ n * wide z → n ≤ 256 → length l ≡ 256 → length r ≡ 256 → length was ≡ 512
     → is ≡ sets was 0 (laid z (take n l) (take n r)) → Laid z n k l r is
 laid-front z n k l r was e h el er ew g =
@@ -125,6 +130,7 @@ laid-front z n k l r was e h el er ew g =
     let ll = length-take-le n l (omega arith) in
     let c : length x ≡ k = length-laid z (take n l) (take n r) (length-take-le n r (omega arith) ∙ sym ll) ∙ rw (ll, e) in
     record {
+      count = e;
       gave = rw (g, sets-eq x was 0 (rw (zero-add, c) (omega arith))) (take-at x (drop (0 + length x) was) k c);
       room = ap length g ∙ length-sets was 0 x ∙ ew;
     }

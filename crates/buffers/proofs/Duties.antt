@@ -1,22 +1,23 @@
--- The mapper takes no part in a mono frame, so duties are the mapper over the frames' samples. Assumes nothing.
+-- The mapper takes no part in a mono frame, so cells at a level are the mapper over the frames' samples. Assumes nothing.
 use Prim.Native.Nat.{ℕ, zero, suc}
 use mathlib.Core.Path.{_≡_, refl, sym, _∙_, ap}
 use mathlib.Core.Bool.{Bool, true, false, cond}
-use mathlib.Core.List.{List, [], _∷_}
+use mathlib.Core.List.{List, [], _∷_, _++_}
 use lib.Dec.{eqb}
 use lib.IntN.{ℤ}
 use Rattle.laws.specs.Runs.{after, given}
 use Rattle.config.specs.declared.AudioConfig.{AudioConfig}
 use Rattle.mixer.specs.declared.Mixer.{Mixer}
-use Rattle.output.specs.Duty.{mapped}
-use Rattle.output.specs.declared.Period.{Period}
 use Rattle.output.specs.declared.PwmMapper.{PwmMapper}
 use Rattle.frame.specs.Fades.{fadeEnded, fadeAt, nextT, advanced}
 use Rattle.frame.specs.Frames.{enveloped, sampled, monoMix, withMapper, monoGiven, monoFrame, dutyFrame}
-use Rattle.frame.specs.Runs.{monoStep, dutyStep, duties}
+use Rattle.frame.specs.Runs.{monoStep}
 use Rattle.frame.specs.declared.MonoFrame.{MonoFrame}
-use Rattle.buffers.proofs.Sounds.{pcm}
-use Rattle.buffers.specs.Blocks.{mappedOver, dutiesOver, row}
+use Rattle.buffers.proofs.Rows.{pcm}
+use Rattle.buffers.specs.Blocks.{leveled, mapperOver, levelsOver, row}
+use Rattle.buffers.specs.Shapes.{levelStep, levelOf}
+use Rattle.buffers.specs.declared.Level.{Level}
+use Rattle.buffers.specs.declared.Level.the-variants.{Duty, U12, U16}
 
 -- ---- a mono frame with another mapper
 abbrev mapperIn : MonoFrame → PwmMapper → MonoFrame
@@ -88,50 +89,60 @@ abbrev period : Mixer → ℕ
 period m = m .config .«pwm_period»
 
 -- the mapper after the first sample, under a mapper and a configuration
-abbrev next : Mixer → PwmMapper → AudioConfig → PwmMapper
-next m p c = mapped p (pcm m) (c .«pwm_period») .mapper
+abbrev next : Level → Mixer → PwmMapper → AudioConfig → PwmMapper
+next l m p c = leveled l (c .«pwm_period») p (pcm m) .mapper
 
-duty-step : (m : Mixer) → dutyStep m ≡ withMapper (monoStep m) (next m (monoStep m .mapper) (monoStep m .config))
+-- a frame of a level, and its cell
+level-step : (l : Level) (m : Mixer) → levelStep l m ≡ withMapper (monoStep m) (next l m (monoStep m .mapper) (monoStep m .config))
 unfolding dutyFrame
-duty-step m = refl
+level-step Duty m = refl
+level-step U12 m = refl
+level-step U16 m = refl
 
-duty-after : (n : ℕ) (m : Mixer) → after dutyStep n m ≡ withMapper (after monoStep n m) (mappedOver (period m) (m .mapper) (row monoStep pcm n m))
-unfolding after given mappedOver
-duty-after zero m = refl
-duty-after (suc n) m =
-    let k = mono-keeps m in
-    let x = monoStep m in
-    let q = next m (x .mapper) (x .config) in
-    ap (after dutyStep n) (duty-step m)
-    ∙ duty-after n (withMapper x q)
-    ∙ ap (λ (y : Mixer). withMapper y (mappedOver (period x) q (row monoStep pcm n (withMapper x q)))) (after-mapper n x q)
-    ∙ ap (λ (l : List ℤ). withMapper (after monoStep n x) (mappedOver (period x) q l)) (row-mapper n x q)
-    ∙ ap (λ (a : PwmMapper). withMapper (after monoStep n x) (mappedOver (period x) (next m a (x .config)) (row monoStep pcm n x))) (k .0)
-    ∙ ap (λ (c : AudioConfig). withMapper (after monoStep n x) (mappedOver (c .«pwm_period») (next m (m .mapper) c) (row monoStep pcm n x))) (k .1)
-
-first-duty : (m : Mixer) → dutyFrame m .duty ≡ mapped (monoStep m .mapper) (pcm m) (period (monoStep m)) .duty
+level-cell : (l : Level) (m : Mixer) → levelOf l m ≡ leveled l (period (monoStep m)) (monoStep m .mapper) (pcm m) .duty ∷ []
 unfolding dutyFrame
-first-duty m = refl
+level-cell Duty m = refl
+level-cell U12 m = refl
+level-cell U16 m = refl
 
-duty-given : (n : ℕ) (m : Mixer) → given dutyStep duties n m ≡ dutiesOver (period m) (m .mapper) (row monoStep pcm n m)
-unfolding given dutiesOver
-duty-given zero m = refl
-duty-given (suc n) m =
-    let k = mono-keeps m in
-    let x = monoStep m in
-    let q = next m (x .mapper) (x .config) in
-    ap (λ (d : ℕ). d ∷ given dutyStep duties n (dutyStep m)) (first-duty m)
-    ∙ ap (λ (l : List ℕ). mapped (x .mapper) (pcm m) (period x) .duty ∷ l)
-    (ap (given dutyStep duties n) (duty-step m)
-    ∙ duty-given n (withMapper x q)
-    ∙ ap (dutiesOver (period x) q) (row-mapper n x q))
-    ∙ ap (λ (a : PwmMapper). mapped a (pcm m) (period x) .duty ∷ dutiesOver (period x) (next m a (x .config)) (row monoStep pcm n x)) (k .0)
-    ∙ ap (λ (c : AudioConfig). mapped (m .mapper) (pcm m) (c .«pwm_period») .duty ∷ dutiesOver (c .«pwm_period») (next m (m .mapper) c) (row monoStep pcm n x)) (k .1)
+module _ (l : Level) where
+  level-after : (n : ℕ) (m : Mixer) → after (levelStep l) n m ≡ withMapper (after monoStep n m) (mapperOver l (period m) (m .mapper) (row monoStep pcm n m))
+  unfolding after given mapperOver
+  level-after zero m = refl
+  level-after (suc n) m =
+      let k = mono-keeps m in
+      let x = monoStep m in
+      let q = next l m (x .mapper) (x .config) in
+      ap (after (levelStep l) n) (level-step l m)
+      ∙ level-after n (withMapper x q)
+      ∙ ap (λ (y : Mixer). withMapper y (mapperOver l (period x) q (row monoStep pcm n (withMapper x q)))) (after-mapper n x q)
+      ∙ ap (λ (s : List ℤ). withMapper (after monoStep n x) (mapperOver l (period x) q s)) (row-mapper n x q)
+      ∙ ap (λ (a : PwmMapper). withMapper (after monoStep n x) (mapperOver l (period x) (next l m a (x .config)) (row monoStep pcm n x))) (k .0)
+      ∙ ap (λ (c : AudioConfig). withMapper (after monoStep n x) (mapperOver l (c .«pwm_period») (next l m (m .mapper) c) (row monoStep pcm n x))) (k .1)
 
--- the state and the cells that the mapper over a block's samples makes
-module _ (m x : Mixer) (n : ℕ) (p : Period) (samples : List ℤ) (h : x ≡ after monoStep n m) (e : p ≡ record { counts = x .config .«pwm_period» }) (c : samples ≡ row monoStep pcm n m) where
-  pub state-is : (q : PwmMapper) → q ≡ mappedOver (p .counts) (x .mapper) samples → withMapper x q ≡ after dutyStep n m
-  state-is q g = rw (g, e, c, duty-after n m, h, run-keeps n m .0, run-keeps n m .1)
+  level-given : (n : ℕ) (m : Mixer) → given (levelStep l) (levelOf l) n m ≡ levelsOver l (period m) (m .mapper) (row monoStep pcm n m)
+  unfolding given levelsOver
+  level-given zero m = refl
+  level-given (suc n) m =
+      let k = mono-keeps m in
+      let x = monoStep m in
+      let q = next l m (x .mapper) (x .config) in
+      ap (λ (d : List ℕ). d ++ given (levelStep l) (levelOf l) n (levelStep l m)) (level-cell l m)
+      ∙ ap (λ (s : List ℕ). leveled l (period x) (x .mapper) (pcm m) .duty ∷ s)
+      (ap (given (levelStep l) (levelOf l) n) (level-step l m)
+      ∙ level-given n (withMapper x q)
+      ∙ ap (levelsOver l (period x) q) (row-mapper n x q))
+      ∙ ap (λ (a : PwmMapper). leveled l (period x) a (pcm m) .duty ∷ levelsOver l (period x) (next l m a (x .config)) (row monoStep pcm n x)) (k .0)
+      ∙ ap (λ (c : AudioConfig). leveled l (c .«pwm_period») (m .mapper) (pcm m) .duty ∷ levelsOver l (c .«pwm_period») (next l m (m .mapper) c) (row monoStep pcm n x)) (k .1)
 
-  pub cells-are : dutiesOver (p .counts) (x .mapper) samples ≡ given dutyStep duties n m
-  cells-are = rw (e, c, duty-given n m, h, run-keeps n m .0, run-keeps n m .1)
+  -- frames of a level keep the period
+  pub level-period : (n : ℕ) (m : Mixer) → period (after (levelStep l) n m) ≡ period m
+  level-period n m = rw (level-after n m, run-keeps n m .1)
+
+  -- the state and the cells that the mapper over a block's samples makes
+  module _ (m x : Mixer) (n p : ℕ) (samples : List ℤ) (h : x ≡ after monoStep n m) (e : p ≡ period m) (c : samples ≡ row monoStep pcm n m) where
+    pub state-is : (q : PwmMapper) → q ≡ mapperOver l p (x .mapper) samples → withMapper x q ≡ after (levelStep l) n m
+    state-is q g = rw (g, e, c, level-after n m, h, run-keeps n m .0)
+
+    pub cells-are : levelsOver l p (x .mapper) samples ≡ given (levelStep l) (levelOf l) n m
+    cells-are = rw (e, c, level-given n m, h, run-keeps n m .0)

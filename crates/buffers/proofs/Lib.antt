@@ -2,10 +2,12 @@
 --     Parts    filling in two parts is filling at once
 --     Cells    cells stored one after another
 --     Fill     blocks after the frames so far, of any box
---     Sounds   the same of this box's shapes and levels
---     Duties   duties are the mapper over the frames' samples
+--     Rows     the samples that a block's rows hold
+--     Duties   cells at a level are the mapper over the frames' samples
+--     Sounds   blocks of this box's frames, by shape and by level
 pub mod Parts
 mod Cells
 mod Fill
-mod Sounds
+mod Rows
 mod Duties
+mod Sounds

@@ -1,62 +1,43 @@
 -- What blocks of this box's frames give, by shape and by level. Assumes nothing.
-use Prim.Native.Nat.{ℕ, zero, suc, _+_, _*_, _-_, _≤_, _<_, min}
+use Prim.Native.Nat.{ℕ, _+_, _*_, _-_, _≤_, _<_, min}
 use native.Mathlib.Omega.{arith}
 use mathlib.Core.Path.{_≡_, refl, sym, _∙_, ap}
-use mathlib.Core.List.{List, [], _∷_, _++_, map}
+use mathlib.Core.Bool.{Bool, false}
+use mathlib.Core.List.{List, [], _∷_, map}
 use lib.IntN.{ℤ}
-use lib.ListN.{length, take, drop, length-append, length-drop}
-use lib.Seq.{sets, take-at}
+use lib.ListN.{length, take}
+use lib.Seq.{sets}
 use Rattle.laws.specs.Made.{Made}
-use Rattle.laws.specs.Runs.{after, given}
-use Rattle.frame.specs.Frames.{monoFrame, stereoFrame}
+use Rattle.laws.specs.Runs.{given}
+use Rattle.block.specs.Blocks.{Block}
+use Rattle.frame.specs.Frames.{stereoFrame, withMapper}
 use Rattle.frame.specs.Runs.{monoStep, stereoStep}
+use Rattle.frame.proofs.Laws.{valid-mapper}
 use Rattle.mixer.specs.Mixers.{Valid}
 use Rattle.mixer.specs.declared.Mixer.{Mixer}
-use Rattle.buffers.specs.Buffers.{once, toI8, FillsAll}
-use Rattle.buffers.specs.Shapes.{wide, framesIn, cellsIn, frameStep, rawOf, levelStep, levelOf, FillsBy}
+use Rattle.output.specs.Duty.{ValidMapper}
+use Rattle.output.specs.declared.PwmMapper.{PwmMapper}
+use Rattle.buffers.specs.Buffers.{toI8, FillsAll}
+use Rattle.buffers.specs.Shapes.{wide, framesIn, cellsIn, sidesOf, frameStep, rawOf, levelStep, levelOf, FillsBy}
 use Rattle.buffers.specs.declared.Level.{Level}
 use Rattle.buffers.specs.declared.Level.the-variants.{Duty, U12, U16}
 use Rattle.buffers.specs.declared.Shape.{Shape}
 use Rattle.buffers.specs.declared.Shape.the-variants.{Once, Doubled, Sides}
-use Rattle.buffers.proofs.Cells.{span-small}
+use Rattle.buffers.proofs.Cells.{span-small, span-some}
+use Rattle.buffers.proofs.Duties.{level-period, state-is, cells-are}
 use Rattle.buffers.proofs.Fill.{Filling, filling-start, filling-long, filling-turn, filling-end, map-given}
-use Rattle.buffers.specs.Blocks.{pairs, Span, Laid, Heard, laid, row}
+use Rattle.buffers.proofs.Rows.{pcm, pairs-given, block-cells, made-few}
+use Rattle.buffers.specs.Blocks.{Span, Laid, laid, mapperOver, levelsOver}
 
-module _ (step : Mixer → Mixer) (sample : Mixer → ℤ) where
-  length-row : (n : ℕ) (s : Mixer) → length (row step sample n s) ≡ n
-  unfolding given
-  length-row zero s = refl
-  length-row (suc n) s = rw (length-row n (step s))
-
-  pairs-given : (r : Mixer → ℤ) (n : ℕ) (s : Mixer) → pairs toI8 (row step sample n s) (row step r n s) ≡ given step (λ s. sample s ∷ r s ∷ []) n s
-  unfolding given pairs
-  pairs-given r zero s = refl
-  pairs-given r (suc n) s = ap (λ (x : List ℤ). sample s ∷ r s ∷ x) (pairs-given r n (step s))
-
-  -- a block that was filled for n frames, n at most 256
-  pub block-cells : (n : ℕ) (s : Mixer) (rest : List ℤ) {block : List ℤ} → n ≤ 256 → block ≡ row step sample (min n 256) s ++ rest → take n block ≡ row step sample n s
-  block-cells n s rest h e =
-      let k : min n 256 ≡ n = omega arith in
-      rw (e, k) (take-at (row step sample n s) rest n (length-row n s))
-
-  pub block-whole : (n : ℕ) (s : Mixer) (was : List ℤ) {block : List ℤ} → length was ≡ 256 → block ≡ row step sample (min n 256) s ++ drop (min n 256) was → length block ≡ 256
-  block-whole n s was h e = rw (e, length-append, length-row (min n 256) s, length-drop) (omega arith)
-
-pub made-few : (step : Mixer → Mixer) (m : Mixer) {r : Mixer} (n : ℕ) → n ≤ 256 → Made Valid (after step (min n 256) m) r → Made Valid (after step n m) r
-made-few step m n h p =
-    let k : min n 256 ≡ n = omega arith in
-    rw k at p
-
-abbrev pub pcm : Mixer → ℤ
-pcm m = monoFrame m .pcm
-
-pub once-cells : {B : Type 0} (f : ℤ → B) (n : ℕ) (s : Mixer) (rest : List ℤ) {block : List ℤ} → n ≤ 256 → block ≡ row monoStep pcm (min n 256) s ++ rest → map f (take n block) ≡ given monoStep (once f) n s
-once-cells f n s rest h e = rw (block-cells monoStep pcm n s rest h e) (map-given f monoStep (λ m. pcm m ∷ []) n s)
-
-heard-laid : (z : Shape) (n : ℕ) (m : Mixer) (left right : List ℤ) → Heard z n m left right → laid z (take n left) (take n right) ≡ given (frameStep z) (rawOf z) n m
-heard-laid Once n m left right h = rw h (map-given toI8 monoStep (λ m. pcm m ∷ []) n m)
-heard-laid Doubled n m left right h = rw h (pairs-given monoStep pcm pcm n m)
-heard-laid Sides n m left right h = rw (h .0, h .1) (pairs-given stereoStep (λ m. stereoFrame m .left) (λ m. stereoFrame m .right) n m)
+-- the samples of a block, side by side, are those of its frames
+block-laid : (z : Shape) (n : ℕ) {m r : Mixer} {lw rr left right : List ℤ} → n ≤ 256 → Block (sidesOf z) m (min n 256) lw rr r left right
+    → laid z (take n left) (take n right) ≡ given (frameStep z) (rawOf z) n m
+block-laid Once n {m} h b = rw (block-cells monoStep pcm n m _ h (b .left)) (map-given toI8 monoStep (λ m. pcm m ∷ []) n m)
+block-laid Doubled n {m} h b = rw (block-cells monoStep pcm n m _ h (b .left)) (pairs-given monoStep pcm pcm n m)
+block-laid Sides n {m} h b =
+    let l : Mixer → ℤ = λ m. stereoFrame m .left in
+    let r : Mixer → ℤ = λ m. stereoFrame m .right in
+    rw (block-cells stereoStep l n m _ h (b .left), block-cells stereoStep r n m _ h (b .right)) (pairs-given stereoStep l r n m)
 
 -- ---- blocks by shape
 shape-counts : (z : Shape) (n at len : ℕ) → at ≡ n * wide z → at ≤ len → len - at < wide z → (n ≡ framesIn z len) × (at ≡ cellsIn z len)
@@ -70,31 +51,41 @@ shape-wide f Doubled m = refl
 shape-wide f Sides m = refl
 
 module _ {A : Type 0} (f : ℤ → A) (shape : Shape) (m : Mixer) (out₀ : List A) where
-  -- blocks so far, and how many cells the next has
-  pub record Shaping (s : Mixer) (at k : ℕ) (out : List A) : Type 0 where
+  -- blocks so far, and how many frames the next has
+  pub record Shaping (s : Mixer) (at n : ℕ) (out : List A) : Type 0 where
     pub filling : Filling Valid (frameStep shape) (λ m. map f (rawOf shape m)) (wide shape) m out₀ s at out
-    pub span : Span shape (length out₀ - at) k
+    pub span : Span shape (length out₀ - at) n
 
-  pub shape-start : {k : ℕ} → Valid m → Span shape (length out₀) k → Shaping m 0 k out₀
+  pub shape-start : {n : ℕ} → Valid m → Span shape (length out₀) n → Shaping m 0 n out₀
   shape-start v h =
       let z : length out₀ - 0 ≡ length out₀ = omega arith in
       record { filling = filling-start _ _ _ _ _ _ v; span = rw z h }
 
-  pub shape-fits : {s : Mixer} {at k : ℕ} {out : List A} → Shaping s at k out → (at + k ≤ length out₀) × (k ≤ 512) × (length out ≡ length out₀)
-  shape-fits {k = k} h = (omega (arith, h .span .fits, h .filling .fits), span-small shape (framesIn shape k) k (h .span .whole) (h .span .few), filling-long _ _ _ _ _ _ (h .filling))
+  pub shape-long : {s : Mixer} {at n : ℕ} {out : List A} → Shaping s at n out → length out ≡ length out₀
+  shape-long h = filling-long _ _ _ _ _ _ (h .filling)
 
-  pub shape-turn : {s t : Mixer} {at k j : ℕ} {out is : List A} {samples : List ℤ} (left right : List ℤ) → Shaping s at k out → Made Valid (after (frameStep shape) (framesIn shape k) s) t × Heard shape (framesIn shape k) s left right
-      → Laid shape (framesIn shape k) k left right samples
-      → is ≡ sets out at (map f (take k samples)) → Span shape (length out₀ - (at + k)) j → Shaping t (at + k) j is
-  shape-turn {s} {k = k} left right h b l laid next =
-      let n = framesIn shape k in
+  -- the cells of the next block
+  pub shape-fits : {s : Mixer} {at n k : ℕ} {out : List A} {left right samples : List ℤ} → Shaping s at n out → Laid shape n k left right samples
+      → (at + k ≤ length out₀) × (k ≤ length samples) × (length out ≡ length out₀)
+  shape-fits {n = n} {k} h l = (omega (arith, h .span .fits, h .filling .fits, l .count), omega (arith, l .room, span-small shape n k (l .count) (h .span .few)), shape-long h)
+
+  -- it leaves less room than there was
+  pub shape-less : {s : Mixer} {at n k : ℕ} {out : List A} {left right samples : List ℤ} → Shaping s at n out → Laid shape n k left right samples → 0 < n
+      → length out₀ - (at + k) < length out₀ - at
+  shape-less {n = n} {k} h l z = omega (arith, shape-fits h l .0, span-some shape n k (l .count) z)
+
+  pub shape-turn : {sides : Bool} {s t : Mixer} {at n k j : ℕ} {out is : List A} {lw rr left right samples : List ℤ} → sides ≡ sidesOf shape → Shaping s at n out
+      → Block sides s (min n 256) lw rr t left right → Laid shape n k left right samples → is ≡ sets out at (map f (take k samples)) → Span shape (length out₀ - (at + k)) j
+      → Shaping t (at + k) j is
+  shape-turn {s = s} {n = n} e h block l laid next =
+      let b = rw e at block in
       record {
-        filling = filling-turn Valid (frameStep shape) (λ m. map f (rawOf shape m)) (wide shape) m out₀ (shape-wide f shape) n (h .filling) (b .0)
-            (ap (map f) (l .gave ∙ heard-laid shape n s left right (b .1)) ∙ map-given f (frameStep shape) (rawOf shape) n s) (h .span .whole) (shape-fits h .0) laid;
+        filling = filling-turn Valid (frameStep shape) (λ m. map f (rawOf shape m)) (wide shape) m out₀ (shape-wide f shape) n (h .filling) (made-few (frameStep shape) s n (h .span .few) (b .mixer))
+            (ap (map f) (l .gave ∙ block-laid shape n (h .span .few) b) ∙ map-given f (frameStep shape) (rawOf shape) n s) (l .count) (shape-fits h l .0) laid;
         span = next;
       }
 
-  pub shape-end : {s : Mixer} {at k : ℕ} {out : List A} → Shaping s at k out → k ≡ 0 → FillsBy f shape m out₀ (record { mixer = s; filled = at }) out
+  pub shape-end : {s : Mixer} {at n : ℕ} {out : List A} → Shaping s at n out → n ≡ 0 → FillsBy f shape m out₀ (record { mixer = s; filled = at }) out
   shape-end {s} {at} h e =
       let g = h .filling in
       let c = shape-counts shape (g .frames) at (length out₀) (g .count) (g .fits) (h .span .none e) in
@@ -110,9 +101,16 @@ module _ (level : Level) (m : Mixer) (out₀ : List ℕ) where
   abbrev pub Levelling : Mixer → ℕ → List ℕ → Type 0
   Levelling s at out = Filling Valid (levelStep level) (levelOf level) 1 m out₀ s at out
 
-  pub level-turn : {s t : Mixer} {at : ℕ} {out is : List ℕ} (n : ℕ) → Levelling s at out → at + n ≤ length out₀ → Made Valid (after (levelStep level) n s) t × (is ≡ sets out at (given (levelStep level) (levelOf level) n s))
-      → Levelling t (at + n) is
-  level-turn n h fits b = filling-turn Valid (levelStep level) (levelOf level) 1 m out₀ (level-wide level) n h (b .0) refl (omega arith) fits (b .1)
+  pub level-turn : {s x : Mixer} {at : ℕ} {out is : List ℕ} {lw rr left right : List ℤ} (n period : ℕ) (q : PwmMapper) → period ≡ m .config .«pwm_period» → Levelling s at out → n ≤ 256
+      → at + n ≤ length out₀ → Block false s (min n 256) lw rr x left right → Made ValidMapper (mapperOver level period (x .mapper) (take n left)) q
+      → is ≡ sets out at (levelsOver level period (x .mapper) (take n left)) → Levelling (withMapper x q) (at + n) is
+  level-turn {s} {x} {left = left} n period q per h few fits b made laid =
+      let state = made-few monoStep s n few (b .mixer) in
+      let p : period ≡ s .config .«pwm_period» = rw (h .state .same, level-period level (h .frames) m) per in
+      let cells = block-cells monoStep pcm n s _ few (b .left) in
+      filling-turn Valid (levelStep level) (levelOf level) 1 m out₀ (level-wide level) n h
+      (record { same = state-is level s x n period (take n left) (state .same) p cells q (made .same); valid = valid-mapper q (made .valid) (state .valid) })
+      (cells-are level s x n period (take n left) (state .same) p cells) (omega arith) fits laid
 
   pub level-end : {s : Mixer} {at : ℕ} {out : List ℕ} → Levelling s at out → at ≡ length out₀ → FillsAll (levelStep level) (levelOf level) m out₀ (record { mixer = s; filled = at }) out
   level-end h e =

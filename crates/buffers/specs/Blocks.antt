@@ -4,14 +4,15 @@ use mathlib.Core.Path.{_≡_}
 use mathlib.Core.List.{List, [], _∷_, map}
 use lib.IntN.{ℤ}
 use lib.ListN.{length, take}
-use Rattle.frame.specs.Frames.{monoFrame, stereoFrame}
-use Rattle.frame.specs.Runs.{monoStep, stereoStep}
 use Rattle.laws.specs.Runs.{given}
 use Rattle.mixer.specs.declared.Mixer.{Mixer}
 use Rattle.output.specs.Duty.{mapped}
+use Rattle.output.specs.declared.Mapped.{Mapped}
 use Rattle.output.specs.declared.PwmMapper.{PwmMapper}
-use Rattle.buffers.specs.Buffers.{toI8}
-use Rattle.buffers.specs.Shapes.{wide, framesIn}
+use Rattle.buffers.specs.Buffers.{toI8, toU12, toU16}
+use Rattle.buffers.specs.Shapes.{wide}
+use Rattle.buffers.specs.declared.Level.{Level}
+use Rattle.buffers.specs.declared.Level.the-variants.{Duty, U12, U16}
 use Rattle.buffers.specs.declared.Shape.{Shape}
 use Rattle.buffers.specs.declared.Shape.the-variants.{Once, Doubled, Sides}
 
@@ -21,21 +22,26 @@ pairs scale [] rs = []
 pairs scale (l ∷ ls) [] = []
 pairs scale (l ∷ ls) (r ∷ rs) = scale l ∷ scale r ∷ pairs scale ls rs
 
--- a mapper over samples, one after another: the mapper after them, and their duties
-unfoldable pub mappedOver : ℕ → PwmMapper → List ℤ → PwmMapper
-mappedOver period p [] = p
-mappedOver period p (s ∷ l) = mappedOver period (mapped p s period .mapper) l
+-- a sample at a level: its cell, and the mapper after it
+abbrev pub leveled : Level → ℕ → PwmMapper → ℤ → Mapped
+leveled Duty period p s = mapped p s period
+leveled U12 period p s = record { mapper = p; duty = toU12 s }
+leveled U16 period p s = record { mapper = p; duty = toU16 s }
 
-unfoldable pub dutiesOver : ℕ → PwmMapper → List ℤ → List ℕ
-dutiesOver period p [] = []
-dutiesOver period p (s ∷ l) = let d = mapped p s period in d .duty ∷ dutiesOver period (d .mapper) l
+-- samples one after another: the mapper after them, and their cells
+unfoldable pub mapperOver : Level → ℕ → PwmMapper → List ℤ → PwmMapper
+mapperOver level period p [] = p
+mapperOver level period p (s ∷ l) = mapperOver level period (leveled level period p s .mapper) l
 
--- so many cells are whole frames, 256 at most; none only where there is no room for a frame
-pub record Span (shape : Shape) (room cells : ℕ) : Type 0 where
-  pub whole : cells ≡ framesIn shape cells * wide shape
-  pub few : framesIn shape cells ≤ 256
-  pub fits : cells ≤ room
-  pub none : cells ≡ 0 → room < wide shape
+unfoldable pub levelsOver : Level → ℕ → PwmMapper → List ℤ → List ℕ
+levelsOver level period p [] = []
+levelsOver level period p (s ∷ l) = let d = leveled level period p s in d .duty ∷ levelsOver level period (d .mapper) l
+
+-- so many frames have room in the cells, 256 at most; none only where there is no room for a frame
+pub record Span (shape : Shape) (room n : ℕ) : Type 0 where
+  pub few : n ≤ 256
+  pub fits : n * wide shape ≤ room
+  pub none : n ≡ 0 → room < wide shape
 
 -- the samples of n frames, side by side as the shape has them
 abbrev pub laid : Shape → List ℤ → List ℤ → List ℤ
@@ -44,14 +50,10 @@ laid Doubled ls rs = pairs toI8 ls ls
 laid Sides ls rs = pairs toI8 ls rs
 
 pub record Laid (shape : Shape) (n cells : ℕ) (left right samples : List ℤ) : Type 0 where
+  pub count : cells ≡ n * wide shape
   pub gave : take cells samples ≡ laid shape (take n left) (take n right)
   pub room : length samples ≡ 512
 
 -- n frames of the box: what its rows hold
 abbrev pub row : (Mixer → Mixer) → (Mixer → ℤ) → ℕ → Mixer → List ℤ
 row step sample n m = given step (λ m. sample m ∷ []) n m
-
-abbrev pub Heard : Shape → ℕ → Mixer → List ℤ → List ℤ → Type 0
-Heard Once n m left right = take n left ≡ row monoStep (λ m. monoFrame m .pcm) n m
-Heard Doubled n m left right = take n left ≡ row monoStep (λ m. monoFrame m .pcm) n m
-Heard Sides n m left right = (take n left ≡ row stereoStep (λ m. stereoFrame m .left) n m) × (take n right ≡ row stereoStep (λ m. stereoFrame m .right) n m)

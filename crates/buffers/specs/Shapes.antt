@@ -1,10 +1,12 @@
 -- How frames become cells: by the shape of a frame, or by the level of a cell without a sign. Assumes nothing.
 use Prim.Native.Nat.{ℕ, _*_, _/_}
+use mathlib.Core.Bool.{Bool, true, false}
 use mathlib.Core.List.{List, [], _∷_, map}
 use lib.IntN.{ℤ}
 use lib.ListN.{length}
+use Rattle.block.specs.Blocks.{stepOf}
 use Rattle.frame.specs.Frames.{monoFrame, stereoFrame}
-use Rattle.frame.specs.Runs.{monoStep, dutyStep, duties, stereoStep}
+use Rattle.frame.specs.Runs.{monoStep, dutyStep, duties}
 use Rattle.mixer.specs.declared.Mixer.{Mixer}
 use Rattle.buffers.specs.Buffers.{Fills, toU12, toU16, once}
 use Rattle.buffers.specs.declared.Filled.{Filled}
@@ -29,10 +31,13 @@ cellsIn Once n = n
 cellsIn Doubled n = n / 2 * 2
 cellsIn Sides n = n / 2 * 2
 
+abbrev pub sidesOf : Shape → Bool
+sidesOf Once = false
+sidesOf Doubled = false
+sidesOf Sides = true
+
 abbrev pub frameStep : Shape → Mixer → Mixer
-frameStep Once = monoStep
-frameStep Doubled = monoStep
-frameStep Sides = stereoStep
+frameStep shape = stepOf (sidesOf shape)
 
 abbrev pub rawOf : Shape → Mixer → List ℤ
 rawOf Once m = monoFrame m .pcm ∷ []

@@ -6,11 +6,13 @@ ghost use lib.ListN.{length, take};
 ghost use lib.Seq.{sets};
 ghost use Rattle.output.specs.Levels.{raised};
 ghost use Rattle.laws.specs.Made.{Made};
-ghost use Rattle.output.specs.Duty.{ValidPeriod, ValidMapper};
-ghost use Rattle.buffers.specs.Buffers.{toI8, toI16, toI32, toU12, toU16};
-ghost use Rattle.buffers.specs.Shapes.{wide, framesIn};
-ghost use Rattle.buffers.specs.Blocks.{pairs, mappedOver, dutiesOver, Span, Laid};
+ghost use Rattle.output.specs.Duty.{ValidPeriod, ValidMapper, ValidMapped};
+ghost use Rattle.buffers.specs.Buffers.{toI8, toI16, toI32};
+ghost use Rattle.buffers.specs.Shapes.{sidesOf};
+ghost use Rattle.buffers.specs.Blocks.{pairs, leveled, mapperOver, levelsOver, Span, Laid};
+use crate::Level;
 use crate::Shape;
+use output::Mapped;
 use output::Period;
 use output::PwmMapper;
 use tone::block_len;
@@ -51,26 +53,27 @@ pub fn put_u8(raw: &[i8], k: usize, at: usize, out: &mut [u8])
     }
 }
 
-pub fn put_u12(raw: &[i8], k: usize, at: usize, out: &mut [u16])
-    requires { ⌜ (k ≤ length (now raw)) × (at + k ≤ length (now out)) ⌝ }
-    ensures { λ r. ⌜ now (out .exit) ≡ sets (now (out .entry)) at (map toU12 (take k (now (raw .entry)))) ⌝ }
+// A sample's cell at a level, and the mapper after it.
+fn cell(level: Level, mapper: PwmMapper, sample: i8, period: Period) -> Mapped
+    requires { ⌜ ValidMapper mapper × ValidPeriod period ⌝ }
+    ensures { λ r. ⌜ Made ValidMapped (leveled level (period .counts) mapper sample) r ⌝ }
 {
-    for i in 0..k {
-        out[at + i] = output::pcm_to_dac_u12(raw[i]);
+    match level {
+        Level::Duty => mapper.map(sample, period),
+        Level::U12 => Mapped {
+            mapper,
+            duty: output::pcm_to_dac_u12(sample),
+        },
+        Level::U16 => Mapped {
+            mapper,
+            duty: output::pcm_to_dac_u16(sample),
+        },
     }
 }
 
-pub fn put_u16(raw: &[i8], k: usize, at: usize, out: &mut [u16])
-    requires { ⌜ (k ≤ length (now raw)) × (at + k ≤ length (now out)) ⌝ }
-    ensures { λ r. ⌜ now (out .exit) ≡ sets (now (out .entry)) at (map toU16 (take k (now (raw .entry)))) ⌝ }
-{
-    for i in 0..k {
-        out[at + i] = output::pcm_to_dac_u16(raw[i]);
-    }
-}
-
-// The samples' duties, and the mapper after them.
-pub fn put_duties(
+// The samples' cells at a level, and the mapper after them.
+pub fn put_levels(
+    level: Level,
     mapper: PwmMapper,
     period: Period,
     raw: &[i8],
@@ -79,11 +82,11 @@ pub fn put_duties(
     out: &mut [u16],
 ) -> PwmMapper
     requires { ⌜ (k ≤ length (now raw)) × (at + k ≤ length (now out)) × ValidMapper mapper × ValidPeriod period ⌝ }
-    ensures { λ r. ⌜ Made ValidMapper (mappedOver (period .counts) mapper (take k (now (raw .entry)))) r × (now (out .exit) ≡ sets (now (out .entry)) at (dutiesOver (period .counts) mapper (take k (now (raw .entry))))) ⌝ }
+    ensures { λ r. ⌜ Made ValidMapper (mapperOver level (period .counts) mapper (take k (now (raw .entry)))) r × (now (out .exit) ≡ sets (now (out .entry)) at (levelsOver level (period .counts) mapper (take k (now (raw .entry))))) ⌝ }
 {
     let mut state = mapper;
     for i in 0..k {
-        let d = state.map(raw[i], period);
+        let d = cell(level, state, raw[i], period);
         let next = d.mapper;
         state = next;
         out[at + i] = d.duty;
@@ -102,31 +105,57 @@ pub fn put_sides(left: &[i8], right: &[i8], n: usize, raw: &mut [i8])
     }
 }
 
-// How many cells the next block has, of those that there is room for: whole frames, 256 at most.
+// Whether the frames have two sides.
+pub fn sided(shape: Shape) -> bool
+    ensures { λ r. ⌜ r ≡ sidesOf shape ⌝ }
+{
+    match shape {
+        Shape::Once => false,
+        Shape::Doubled => false,
+        Shape::Sides => true,
+    }
+}
+
+// How many frames the next block has, of those that there is room for in cells: 256 at most.
 pub fn span(shape: Shape, room: usize) -> usize
     ensures { λ r. ⌜ Span shape room r ⌝ }
 {
     match shape {
         Shape::Once => block_len(room),
-        Shape::Doubled => block_len(room / 2) * 2,
-        Shape::Sides => block_len(room / 2) * 2,
+        Shape::Doubled => block_len(room / 2),
+        Shape::Sides => block_len(room / 2),
     }
 }
 
 // Lent as a slice, a buffer tells the proof its length, which its type fixes.
 fn whole(cells: &[i8]) {}
 
-// A block's samples in the order of the k cells.
-pub fn lay(shape: Shape, left: &[i8; 256], right: &[i8; 256], k: usize, raw: &mut [i8; 512])
-    requires { ⌜ (k ≡ framesIn shape k * wide shape) × (framesIn shape k ≤ 256) ⌝ }
-    ensures { λ r. ⌜ Laid shape (framesIn shape k) k (now (left .entry)) (now (right .entry)) (now (raw .exit)) ⌝ }
+// The samples of n frames in the order of their cells; how many cells that are.
+pub fn lay(
+    shape: Shape,
+    left: &[i8; 256],
+    right: &[i8; 256],
+    n: usize,
+    raw: &mut [i8; 512],
+) -> usize
+    requires { ⌜ n ≤ 256 ⌝ }
+    ensures { λ r. ⌜ Laid shape n r (now (left .entry)) (now (right .entry)) (now (raw .exit)) ⌝ }
 {
     whole(left);
     whole(right);
     whole(&*raw);
     match shape {
-        Shape::Once => put_i8(left, k, 0, &mut *raw),
-        Shape::Doubled => put_sides(left, left, k / 2, &mut *raw),
-        Shape::Sides => put_sides(left, right, k / 2, &mut *raw),
+        Shape::Once => {
+            put_i8(left, n, 0, &mut *raw);
+            n
+        }
+        Shape::Doubled => {
+            put_sides(left, left, n, &mut *raw);
+            n * 2
+        }
+        Shape::Sides => {
+            put_sides(left, right, n, &mut *raw);
+            n * 2
+        }
     }
 }

@@ -25,7 +25,7 @@ use Rattle.mixer.specs.declared.Mixer.{Mixer}
 use Rattle.voice.specs.Voices.{silentVoice, stoppedVoice}
 use Rattle.voice.specs.declared.Voice.{Voice}
 use Rattle.block.specs.Blocks.{stepOf, leftOf, front, rightCells, Block}
-use Rattle.block.specs.Parts.{Slow, FadeFrames, RightPart, Part, frameAt, pace}
+use Rattle.block.specs.Parts.{Slow, FadeFrames, MonoPart, RightPart, Part, frameAt, pace}
 use Rattle.block.specs.Cells.{Written}
 use Rattle.block.proofs.Cells.{written-both, written-whole, written-as}
 use Rattle.block.proofs.Frames.{given-at, given-length, moved, runAll, runPair, after-pair, after-stereo, Ends, mono-ending, stereo-ending, after-same, samples-same}
@@ -151,10 +151,18 @@ joins false x h =
     let e = mono-ending x h in
     record { step = ap (λ (f : MonoFrame). f .mixer) e; left = ap (λ (f : MonoFrame). f .pcm) e; right = λ z. never z }
 
+-- mono frames leave the right side alone
+pub mono-part : {m r : Mixer} {at len : ℕ} {was is : List ℤ} (other : List ℤ) → MonoPart m at len was r is → Part false m at len was other r is other
+mono-part other p = record { mixer = p .mixer; left = p .cells; right = refl }
+
 -- the first part of a block in which a fade ends
 module _ (m : Mixer) (f n : ℕ) (v : Valid m) (h : FadeFrames (m .«crossfade_active») (m .«crossfade_t_q8») (m .«crossfade_step_q8») n f) where
   pub slow-part : Slow m f
   slow-part x z = h .goes x z
+
+  -- no fade ends in the block
+  pub slow-all : n ≤ f → Slow m n
+  slow-all l = let e : f ≡ n = omega (arith, h .most) in rw e at slow-part
 
   part-ends : (vs : List Voice) → f < n → Ends (moved m vs (m .«crossfade_t_q8» + f * pace m))
   unfolding fadeAt
@@ -183,10 +191,6 @@ module _ (m : Mixer) (f n : ℕ) (v : Valid m) (h : FadeFrames (m .«crossfade_a
         left = cells-both (stepOf sides) m b f n l (j .step) (leftOf sides) (j .left) (x .left) (y .left);
         right = right-both sides b rr rm ri l j (x .right) (y .right);
       }
-
-pub right-size : (sides : Bool) (m : Mixer) (at len : ℕ) (was is : List ℤ) → RightPart sides m at len was is → length is ≡ length was
-right-size true m at len was is p = p .size
-right-size false m at len was is p = ap length p
 
 right-whole : (sides : Bool) (m : Mixer) (n : ℕ) (was is : List ℤ) → n ≤ 256 → length was ≡ 256 → RightPart sides m 0 n was is → is ≡ rightCells sides n m was
 right-whole true m n was is l e p = cells-whole stereoStep (λ m. stereoFrame m .right) m n l e p

@@ -1,11 +1,11 @@
 // Up to 256 frames at once, voice by voice: each voice runs over the block, and passes over its cells add up, mix and level.
 ghost use mathlib.Core.Path.{_≡_};
 ghost use mathlib.Core.Bool.{true, false};
-ghost use Prim.Native.Nat.{_+_, _≤_, min};
+ghost use Prim.Native.Nat.{_+_, _≤_, _<_, min};
 ghost use lib.ListN.{length};
 ghost use Rattle.mixer.specs.Mixers.{Valid};
 ghost use Rattle.block.specs.Blocks.{Block};
-ghost use Rattle.block.specs.Parts.{MonoPart, Part, Slow};
+ghost use Rattle.block.specs.Parts.{MonoPart, Part, Slow, FadeFrames};
 use mixer::Mixer;
 
 mod ends;
@@ -98,25 +98,26 @@ fn panned(m: Mixer, at: usize, len: usize, left: &mut [i8; 256], right: &mut [i8
     ends::moved(mixed, len)
 }
 
-// len frames of which none ends a fade, written from `at` on.
-fn steady(
+// n frames over a fade's end, which is in the frame after f of them.
+fn over_end(
     m: Mixer,
     sides: bool,
-    at: usize,
-    len: usize,
+    f: usize,
+    n: usize,
     left: &mut [i8; 256],
     right: &mut [i8; 256],
 ) -> Mixer
-    requires { ⌜ Valid m × (at + len ≤ 256) × (length (now left) ≡ 256) × (length (now right) ≡ 256) × Slow m len × (m .«crossfade_active» ≡ true → at ≡ 0) ⌝ }
-    ensures { λ r. ⌜ Part sides m at len (now (left .entry)) (now (right .entry)) r (now (left .exit)) (now (right .exit)) ⌝ }
+    requires { ⌜ Valid m × (n ≤ 256) × (length (now left) ≡ 256) × (length (now right) ≡ 256) × FadeFrames (m .«crossfade_active») (m .«crossfade_t_q8») (m .«crossfade_step_q8») n f × (f < n) ⌝ }
+    ensures { λ r. ⌜ Part sides m 0 n (now (left .entry)) (now (right .entry)) r (now (left .exit)) (now (right .exit)) ⌝ }
 {
     if sides {
-        return panned(m, at, len, left, right);
+        let a = panned(m, 0, f, left, right);
+        let b = ends::ended(a);
+        return panned(b, f, n - f, left, right);
     }
-    if m.crossfade_active {
-        return fading(m, len, left);
-    }
-    plain(m, at, len, left)
+    let a = fading(m, f, left);
+    let b = ends::ended(a);
+    plain(b, f, n - f, left)
 }
 
 // len frames, 256 at most, in stereo or in mono: `left` takes the samples of the left side, or of the only one, from the front on, and
@@ -135,10 +136,14 @@ pub fn sound(
     whole(&*right);
     let n = tone::block_len(len);
     let f = ends::fade_frames(m.crossfade_active, m.crossfade_t_q8, m.crossfade_step_q8, n);
-    let a = steady(m, sides, 0, f, left, right);
     if f < n {
-        let b = ends::ended(a);
-        return steady(b, sides, f, n - f, left, right);
+        return over_end(m, sides, f, n, left, right);
     }
-    a
+    if sides {
+        return panned(m, 0, n, left, right);
+    }
+    if m.crossfade_active {
+        return fading(m, n, left);
+    }
+    plain(m, 0, n, left)
 }

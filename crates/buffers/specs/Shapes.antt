@@ -6,7 +6,7 @@ use lib.IntN.{ℤ}
 use lib.ListN.{length}
 use Rattle.block.specs.Blocks.{stepOf}
 use Rattle.frame.specs.Frames.{monoFrame, stereoFrame}
-use Rattle.frame.specs.Runs.{monoStep, dutyStep, duties}
+use Rattle.frame.specs.Runs.{monoStep, monoSamples, dutyStep, duties}
 use Rattle.mixer.specs.declared.Mixer.{Mixer}
 use Rattle.buffers.specs.Buffers.{Fills, toU12, toU16, once}
 use Rattle.buffers.specs.declared.Filled.{Filled}
@@ -40,7 +40,7 @@ abbrev pub frameStep : Shape → Mixer → Mixer
 frameStep shape = stepOf (sidesOf shape)
 
 abbrev pub rawOf : Shape → Mixer → List ℤ
-rawOf Once m = monoFrame m .pcm ∷ []
+rawOf Once m = monoSamples m
 rawOf Doubled m = monoFrame m .pcm ∷ monoFrame m .pcm ∷ []
 rawOf Sides m = stereoFrame m .left ∷ stereoFrame m .right ∷ []
 

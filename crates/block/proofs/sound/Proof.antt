@@ -1,71 +1,62 @@
--- `block::sound` meets its contract: the part before a fade's end, and the part from it on.
+-- `block::sound` meets its contract: one part, or over a fade's end; one part is by the kind of frame, and by whether a fade is going on.
 use borrow.Author.Needs.{needs}
+use Prim.Native.Nat.{_≤_}
 use native.Mathlib.Omega.{arith}
-use mathlib.Core.Path.{_≡_, refl, sym, _∙_}
-use mathlib.Core.Bool.{false}
+use mathlib.Core.Path.{_≡_}
 use lib.ListN.{length}
-use Rattle.laws.proofs.Bools.{never}
-use Rattle.block.proofs.Frames.{ended-quiet}
-use Rattle.block.proofs.Parts.{slow-part, next-ends, part-two, right-size, part-whole}
+use Rattle.block.specs.Parts.{Slow}
+use Rattle.block.proofs.Parts.{slow-all, mono-part, part-whole}
 use Rattle.block.proofs.sound.Statement.{statement}
 use Rattle.block.proofs.sound.Tie as tie
 
-abbrev start : tie.After-block-len → tie.Start
-start b = b .before .before .before .before .before .before .before
+abbrev start : tie.After-fade-frames → tie.Start
+start y = y .before .before .before .before .before .before .before .before
 
-full : (b : tie.After-block-len) → (length (start b .args .left .now) ≡ 256) × (length (start b .args .right .now) ≡ 256)
-full b = (search needs, search needs)
+few : (y : tie.After-fade-frames) → y .before .block-len .result ≤ 256
+few y = omega (arith, y .before .block-len .ensures)
 
-steady-requires : tie.Need-steady-requires
-steady-requires c κs =
-    let y = c .before .before in
-    let b = y .before in
-    let s = start b in
-    let h = y .fade-frames .ensures in
-    let l = full b in
-    (s .pre, omega (arith, h .most, b .block-len .ensures), l .0, l .1, slow-part (s .args .m) _ _ (s .pre) h, λ a. refl)
+full : (y : tie.After-fade-frames) → (length (start y .args .left .now) ≡ 256) × (length (start y .args .right .now) ≡ 256)
+full y = (search needs, search needs)
 
-ended-requires : tie.Need-ended-requires
-ended-requires c κs =
-    let x = c .before in
-    let y = x .before .before .before in
-    let s = start (y .before) in
-    let p = x .steady .ensures .mixer in
-    (p .valid, rw (p .same) (next-ends (s .args .m) _ _ (s .pre) (y .fade-frames .ensures) (s .args .sides) (c .if1 .taken) .active))
-
-steady-requires-2 : tie.Need-steady-requires-2
-steady-requires-2 c κs =
-    let d = c .before .before .ended .ensures in
-    let x = c .before .before .before .before in
-    let y = x .before .before .before in
-    let b = y .before in
-    let s = start b in
-    let h = y .fade-frames .ensures .most in
-    let p = x .steady .ensures in
-    let l = full b in
-    let quiet : c .before .before .ended .result .«crossfade_active» ≡ false = rw (d .same) (ended-quiet (x .steady .result)) in
-    (d .valid, omega (arith, b .block-len .ensures), p .left .size ∙ l .0, right-size (s .args .sides) (s .args .m) 0 _ _ _ (p .right) ∙ l .1, (λ a z. never (sym quiet ∙ a)), λ a. never (sym quiet ∙ a))
+-- no fade ends in the block
+slow : (e : tie.Else1) → Slow (start (e .before) .args .m) (e .before .before .block-len .result)
+slow e = let y = e .before in slow-all (start y .args .m) _ _ (start y .pre) (y .fade-frames .ensures) (omega (arith, e .if1 .left))
 
 returns : tie.Need-returns
 returns c =
-    let d = c .before .before .before .ended .ensures in
-    let t = c .before .before .before .before in
-    let x = t .before in
-    let y = x .before .before .before in
-    let b = y .before in
-    let s = start b in
-    let l = full b in
-    part-whole (b .block-len .ensures) (omega (arith, b .block-len .ensures)) (l .0) (l .1)
-    (part-two (s .args .m) _ _ (s .pre) (y .fade-frames .ensures) (d .same) (t .if1 .taken) (x .steady .ensures) (c .steady2 .ensures))
+    let y = c .before .before .before .before in
+    part-whole (y .before .block-len .ensures) (few y) (full y .0) (full y .1) (c .over-end .ensures)
+
+panned-requires : tie.Need-panned-requires
+panned-requires c κs =
+    let e = c .before .before .before in
+    let y = e .before in
+    (start y .pre, omega (arith, few y), full y .0, full y .1, slow e)
 
 returns-2 : tie.Need-returns-2
 returns-2 c =
-    let x = c .before in
-    let y = x .before .before .before in
-    let b = y .before in
-    let l = full b in
-    let e : y .fade-frames .result ≡ b .block-len .result = omega (arith, y .fade-frames .ensures .most, c .if1 .left) in
-    part-whole (b .block-len .ensures) (omega (arith, b .block-len .ensures)) (l .0) (l .1) (rw e at (x .steady .ensures))
+    let t = c .before .before .before in
+    let y = t .before .before in
+    rw (t .if2 .taken) (part-whole (y .before .block-len .ensures) (few y) (full y .0) (full y .1) (c .panned .ensures))
+
+fading-requires : tie.Need-fading-requires
+fading-requires c κs =
+    let t = c .before in
+    let e = t .before .before in
+    let y = e .before in
+    (start y .pre, t .if3 .taken, few y, full y .0, slow e)
+
+returns-3 : tie.Need-returns-3
+returns-3 c =
+    let t = c .before .before .before in
+    let y = t .before .before in
+    rw (t .if2 .left) (part-whole (y .before .block-len .ensures) (few y) (full y .0) (full y .1) (mono-part _ (c .fading .ensures)))
+
+returns-4 : tie.Need-returns-4
+returns-4 c =
+    let t = c .before .before .before in
+    let y = t .before .before in
+    rw (t .if2 .left) (part-whole (y .before .block-len .ensures) (few y) (full y .0) (full y .1) (mono-part _ (c .plain .ensures)))
 
 pub sound-spec : {M : Type 1} → statement M
 sound-spec =
@@ -74,10 +65,12 @@ sound-spec =
     (λ c κs. search needs)
     (λ c κs. search needs)
     (λ c κs. search needs)
-    (λ c κs. λ a. start c .pre .fade a .1)
-    steady-requires
-    ended-requires
-    (λ c. search needs)
-    steady-requires-2
+    (λ c κs a. c .before .before .before .before .before .before .before .pre .fade a .1)
+    (λ c κs. let t = c .before .before in let y = t .before in (start y .pre, few y, full y .0, full y .1, y .fade-frames .ensures, t .if1 .taken))
     returns
-    returns-2)
+    panned-requires
+    returns-2
+    fading-requires
+    returns-3
+    (λ c κs. let t = c .before in let y = t .before .before .before in (start y .pre, t .if3 .left, omega (arith, few y), full y .0))
+    returns-4)

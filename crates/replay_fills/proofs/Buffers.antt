@@ -30,56 +30,60 @@ module _ {A : Type 0} where
   take-replicate zero (suc n) x h = absurd (omega arith)
   take-replicate (suc k) (suc n) x h = ap (λ (l : List A). x ∷ l) (take-replicate k n x (omega arith))
 
-  lent-blank : (n : ℕ) {blank : A} {cells : List A} → Lent blank n cells → take n cells ≡ replicate n blank
-  lent-blank n {blank} g = ap (λ (l : List A). take n l) (g .fresh) ∙ take-replicate 2048 n blank (g .fits)
+  lent-blank : {blank : A} {n : ℕ} {cells : List A} → Lent blank n cells → take n cells ≡ replicate n blank
+  lent-blank {blank} {n} g = ap (λ (l : List A). take n l) (g .fresh) ∙ take-replicate 2048 n blank (g .fits)
 
-  pub lent-length : (n : ℕ) {blank : A} {cells : List A} → Lent blank n cells → length (take n cells) ≡ n
-  lent-length n {blank} g = ap length (lent-blank n g) ∙ length-replicate n blank
+  pub lent-length : {blank : A} {n : ℕ} {cells : List A} → Lent blank n cells → length (take n cells) ≡ n
+  lent-length {blank} {n} g = ap length (lent-blank g) ∙ length-replicate n blank
 
-  -- and come back as a part of the same length
-  pub back-fits : (n : ℕ) {blank : A} {cells : List A} (part rest : List A) → Lent blank n cells → length part ≡ length (take n cells) → n ≤ length (part ++ rest)
-  back-fits n part rest g k = omega (arith, length-append part rest, lent-length n g)
+  -- and come back as a part of the same length, before the others
+  pub record Back (blank : A) (n : ℕ) (cells part : List A) : Type 0 where
+    pub lent : Lent blank n cells
+    pub kept : length part ≡ length (take n cells)
 
-  back-same : (n : ℕ) {blank : A} {cells : List A} (part rest : List A) → Lent blank n cells → length part ≡ length (take n cells) → take n (part ++ rest) ≡ part
-  back-same n part rest g k = ap (λ (i : ℕ). take i (part ++ rest)) (sym (k ∙ lent-length n g)) ∙ take-append-seam part rest
+  module _ {blank : A} {n : ℕ} {cells part : List A} (b : Back blank n cells part) where
+    back-all : length part ≡ n
+    back-all = b .kept ∙ lent-length (b .lent)
 
-  pub back-length : (n : ℕ) {blank : A} {cells : List A} (part rest : List A) → Lent blank n cells → length part ≡ length (take n cells) → length (take n (part ++ rest)) ≡ n
-  back-length n part rest g k = ap length (back-same n part rest g k) ∙ k ∙ lent-length n g
+    pub back-fits : n ≤ length (part ++ drop n cells)
+    back-fits = omega (arith, length-append part (drop n cells), back-all)
+
+    back-same : take n (part ++ drop n cells) ≡ part
+    back-same = ap (λ (i : ℕ). take i (part ++ drop n cells)) (sym back-all) ∙ take-append-seam part (drop n cells)
+
+    pub back-length : length (take n (part ++ drop n cells)) ≡ n
+    back-length = ap length back-same ∙ back-all
 
 -- its cells of w digits each
-module _ {A : Type 0} (text : A → List ℕ) (w : ℕ) (sized : (x : A) → length (text x) ≡ w) (small : w ≤ 8) {blank : A} (step : Mixer → Mixer) (gives : Mixer → List A) where
+module _ {A : Type 0} (text : A → List ℕ) (w : ℕ) (sized : (x : A) → length (text x) ≡ w) (small : w ≤ 8) where
   -- what the call wrote, and the cells after it as they were
-  shown : (n frames written : ℕ) {m : Mixer} {r : EngineFilled} {cells : List A} (part rest : List A) {before after : List ℕ} {len : ℕ}
-      → Lent blank n cells
-      → length part ≡ length (take n cells)
+  shown : (step : Mixer → Mixer) (gives : Mixer → List A) (frames written : ℕ) {blank : A} {n : ℕ} {m : Mixer} {r : EngineFilled} {cells part : List A} {before after : List ℕ} {len : ℕ}
+      → Back blank n cells part
       → Fills step gives frames written m (take n cells) (filledIn r) part
-      → Laid before 0 (numberedText 4 (r .filled) text (take n (part ++ rest))) after len
+      → Laid before 0 (numberedText 4 (r .filled) text (take n (part ++ drop n cells))) after len
       → Shows (filledBy text blank step gives frames written n m) before after (record { len = len; engine = r .engine })
   unfolding filledBy
-  shown n frames written {r = r} part rest g k f t =
-      let size = back-length n part rest g k in
+  shown step gives frames written {n = n} {r = r} {cells = cells} {part = part} b f t =
       let less = mul-le-mul-right n small in
-      let room : 4 + w * length (take n (part ++ rest)) < 262144 = rw size (omega (arith, g .fits, less)) in
-      let all = numbered-all text 4 (r .filled) w sized (take n (part ++ rest)) room t in
+      let room : 4 + w * length (take n (part ++ drop n cells)) < 262144 = rw (back-length b) (omega (arith, b .lent .fits, less)) in
+      let all = numbered-all text 4 (r .filled) w sized (take n (part ++ drop n cells)) room t in
       record {
-        laid = rw (f .count, back-same n part rest g k, f .content, lent-blank n g) at all;
+        laid = rw (f .count, back-same b, f .content, lent-blank (b .lent)) at all;
         engine = record { same = ap boxed (f .mixer .same); valid = record { inside = f .mixer .valid } };
       }
 
-  pub singly-shown : (n : ℕ) {m : Mixer} {r : EngineFilled} {cells : List A} (part rest : List A) {before after : List ℕ} {len : ℕ}
-      → Lent blank n cells
-      → length part ≡ length (take n cells)
+  pub singly-shown : (step : Mixer → Mixer) (gives : Mixer → List A) {blank : A} {n : ℕ} {m : Mixer} {r : EngineFilled} {cells part : List A} {before after : List ℕ} {len : ℕ}
+      → Back blank n cells part
       → FillsAll step gives m (take n cells) (filledIn r) part
-      → Laid before 0 (numberedText 4 (r .filled) text (take n (part ++ rest))) after len
+      → Laid before 0 (numberedText 4 (r .filled) text (take n (part ++ drop n cells))) after len
       → Shows (singly text blank step gives n m) before after (record { len = len; engine = r .engine })
-  singly-shown n part rest g k f t = shown n n n part rest g k (rw (lent-length n g) at f) t
+  singly-shown step gives {n = n} b f t = shown step gives n n b (rw (lent-length (b .lent)) at f) t
 
--- by shape
-pub shaped-shown : {A : Type 0} (text : A → List ℕ) (w : ℕ) → ((x : A) → length (text x) ≡ w) → w ≤ 8 → {blank : A} (scale : ℤ → A) (shape : Shape) (n : ℕ) {m : Mixer} {r : EngineFilled} {cells : List A} (part rest : List A) {before after : List ℕ} {len : ℕ}
-    → Lent blank n cells
-    → length part ≡ length (take n cells)
-    → FillsBy scale shape m (take n cells) (filledIn r) part
-    → Laid before 0 (numberedText 4 (r .filled) text (take n (part ++ rest))) after len
-    → Shows (shapedFill text blank scale shape n m) before after (record { len = len; engine = r .engine })
-shaped-shown text w sized small scale shape n part rest g k f t =
-    shown text w sized small (frameStep shape) (λ m. map scale (rawOf shape m)) n (framesIn shape n) (cellsIn shape n) part rest g k (rw (lent-length n g) at f) t
+  -- by shape
+  pub shaped-shown : (scale : ℤ → A) (shape : Shape) {blank : A} {n : ℕ} {m : Mixer} {r : EngineFilled} {cells part : List A} {before after : List ℕ} {len : ℕ}
+      → Back blank n cells part
+      → FillsBy scale shape m (take n cells) (filledIn r) part
+      → Laid before 0 (numberedText 4 (r .filled) text (take n (part ++ drop n cells))) after len
+      → Shows (shapedFill text blank scale shape n m) before after (record { len = len; engine = r .engine })
+  shaped-shown scale shape {n = n} b f t =
+      shown (frameStep shape) (λ m. map scale (rawOf shape m)) (framesIn shape n) (cellsIn shape n) b (rw (lent-length (b .lent)) at f) t

@@ -1,48 +1,27 @@
 -- `replay_fills::i16s` meets its contract: the part that the call left is printed whole.
 use borrow.Author.Needs.{needs}
-use mathlib.Core.Path.{_≡_, sym}
 use native.Mathlib.Omega.{arith}
-use mathlib.Core.List.{_++_}
-use lib.ListN.{length, take, drop}
-use Rattle.buffers.specs.Buffers.{toI16}
+use mathlib.Core.Path.{sym}
 use mir.Syntax.{w16}
 use mir.Val.{ofZ}
+use Rattle.buffers.specs.Buffers.{toI16}
 use Rattle.hex.proofs.Texts.{length-hexOf}
 use Rattle.replay_cells.specs.Cells.{i16Text}
 use Rattle.replay_fills.specs.Fills.{blankI16}
-use Rattle.replay_fills.proofs.Buffers.{Lent, lent-length, back-fits, back-length, shaped-shown}
+use Rattle.replay_fills.proofs.Buffers.{Lent, lent-length, Back, back-fits, back-length, shaped-shown}
 use Rattle.replay_fills.proofs.i16s.Statement.{statement}
 use Rattle.replay_fills.proofs.i16s.Tie as tie
 
-lent : (c : tie.After-blank-i16s) → Lent blankI16 (c .before .args .n) (c .blank-i16s .result)
-lent c = record { fits = c .before .pre .1; fresh = c .blank-i16s .ensures }
+lent : (b : tie.After-blank-i16s) → Lent blankI16 (b .before .args .n) (b .blank-i16s .result)
+lent b = record { fits = b .before .pre .1; fresh = b .blank-i16s .ensures }
 
-slice-aggregate-fill-i16 : tie.Need-slice-aggregate-fill-i16
-slice-aggregate-fill-i16 c = let b = c .before in sym (lent-length (b .before .args .n) (lent b))
-
-array-share-prefix-cells : tie.Need-array-share-prefix-cells
-array-share-prefix-cells c =
-    let f = c .before .before .before in
-    let b = f .before .before in
-    let n = b .before .args .n in
-    back-fits n (f .fill-i16 .last .1 .1 .0) (drop n (b .blank-i16s .result)) (lent b) (f .fill-i16 .kept .1 .1 .0)
-
-printed : (c : tie.After-cells3) → let f = c .before .before .before .before in let b = f .before .before in let n = b .before .args .n in length (take n (f .fill-i16 .last .1 .1 .0 ++ drop n (b .blank-i16s .result))) ≡ n
-printed c =
-    let f = c .before .before .before .before in
-    let b = f .before .before in
-    let n = b .before .args .n in
-    back-length n (f .fill-i16 .last .1 .1 .0) (drop n (b .blank-i16s .result)) (lent b) (f .fill-i16 .kept .1 .1 .0)
-
-slice-aggregate-put-i16s : tie.Need-slice-aggregate-put-i16s
-slice-aggregate-put-i16s c = sym (printed c)
+back : (f : tie.After-fill-i16) → let b = f .before .before in Back blankI16 (b .before .args .n) (b .blank-i16s .result) (f .fill-i16 .last .1 .1 .0)
+back f = record { lent = lent (f .before .before); kept = f .fill-i16 .kept .1 .1 .0 }
 
 returns : tie.Need-returns
 returns c =
     let f = c .before .before .before .before .before in
-    let b = f .before .before in
-    let n = b .before .args .n in
-    shaped-shown i16Text 4 (λ x. length-hexOf 4 (ofZ w16 x)) (omega arith) toI16 (b .before .args .shape) n (f .fill-i16 .last .1 .1 .0) (drop n (b .blank-i16s .result)) (lent b) (f .fill-i16 .kept .1 .1 .0) (f .fill-i16 .ensures) (c .put-i16s .ensures)
+    shaped-shown i16Text 4 (λ x. length-hexOf 4 (ofZ w16 x)) (omega arith) toI16 (f .before .before .before .args .shape) (back f) (f .fill-i16 .ensures) (c .put-i16s .ensures)
 
 pub i16s-spec : {M : Type 1} → statement M
 i16s-spec =
@@ -50,9 +29,9 @@ i16s-spec =
     (tie.spec
     (λ c κs. search needs)
     (λ c. search needs)
-    slice-aggregate-fill-i16
+    (λ c. sym (lent-length (lent (c .before))))
     (λ c κs. search needs)
-    array-share-prefix-cells
-    slice-aggregate-put-i16s
+    (λ c. back-fits (back (c .before .before .before)))
+    (λ c. sym (back-length (back (c .before .before .before .before))))
     (λ c κs. tt)
     returns)

@@ -1,5 +1,5 @@
 -- Each call of the engine advances a fade, leaves it, or does not let it go on; so a fade takes its count of frames. Assumes nothing.
-use Prim.Native.Nat.{ℕ, zero, suc, _≤_, max}
+use Prim.Native.Nat.{ℕ, zero, suc, _≤_}
 use native.Mathlib.Omega.{arith}
 use mathlib.Core.Path.{_≡_, refl, ap, sym, _∙_}
 use mathlib.Core.Bool.{Bool, true, false, cond}

@@ -1,5 +1,5 @@
 -- How long a fade takes, in any box whose steps keep the laws. Assumes nothing.
-use Prim.Native.Nat.{ℕ, zero, suc, _+_, _-_, _*_, _/_, _≤_, _<_, max}
+use Prim.Native.Nat.{ℕ, suc, _+_, _-_, _/_, _≤_, _<_, max}
 use native.Mathlib.Nat.{add-div-right, div-eq-sub-div, div-le-of-le-mul, div-lt-iff-lt-mul, le-div-iff-mul-le}
 use native.Mathlib.Omega.{arith}
 use mathlib.Core.Path.{_≡_, refl, sym, _∙_}
@@ -7,7 +7,7 @@ use mathlib.Core.Bool.{Bool, true, false, cond, _&&_}
 use mathlib.Core.List.{List, [], _∷_}
 use borrow.Author.Tests.{eqb-true, eqb-false}
 use lib.Dec.{eqb}
-use lib.ListN.{length}
+use lib.ListN.{}
 use Rattle.config.specs.Config.{roundedUp}
 use Rattle.laws.specs.Lists.{only}
 use Rattle.laws.proofs.Bools.{never}

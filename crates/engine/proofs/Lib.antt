@@ -1,9 +1,9 @@
 -- What callers cite.
 --     Boxes      what a step of the parts promises, it promises of the box
 --     Openings   the default configuration opens
---     Demand3    demand 3 holds of the engine
+--     Requests   the engine takes play requests as every box does: lawful, follows
 --     Steps      each call advances a fade or leaves it: fade-takes, fade-lasts; what a buffer call and a list of requests are: frame-run, play-run
 pub mod Boxes
 pub mod Openings
-pub mod Demand3
+pub mod Requests
 pub mod Steps

@@ -28,6 +28,8 @@ use Rattle.mixer.specs.declared.VoiceRead.{VoiceRead}
 use Rattle.mixer.specs.declared.VoiceRead.the-variants as R
 use Rattle.play.specs.Fades.{firstReleased, begun, fadedBy, fadedTo, faded}
 use Rattle.play.specs.Plays.{firstSounding, toned, polyBleped}
+use Rattle.requests.specs.Players as Q
+use Rattle.requests.proofs.One.{rest-one}
 use Rattle.start.specs.Starts.{entryStart}
 use Rattle.start.specs.declared.Request.{Request}
 use Rattle.voice.specs.declared.Voice.{Voice}
@@ -35,7 +37,6 @@ use Rattle.engine.specs.Engines.{ValidEngine, boxed}
 use Rattle.engine.specs.Requests.{playedAll}
 use Rattle.engine.specs.Steps.{Frame, mono, duty, stereo, Call, play, tone, polyBlep, bank, pan, masterGain, stop, fade, look, fading, frameStep, framed, called, turnedDown, goesOn, box, FadeTakes}
 use Rattle.engine.specs.declared.AudioEngine.{AudioEngine}
-use Rattle.engine.proofs.Demand3.{rest-one}
 
 -- ---- the frames advance the fade
 duty-fade : (m : Mixer) → SameFade (dutyFrame m .mixer) (advanced m)
@@ -159,6 +160,6 @@ frame-run f zero e = refl
 frame-run f (suc n) e = frame-run f n (framed f e)
 
 pub play-run : (bytes : List ℕ) (rs : List Request) (e : AudioEngine) → afterAll box (map (λ r. call (play bytes r)) rs) e ≡ playedAll e bytes rs
-unfolding afterAll playedAll
+unfolding afterAll Q.playedAll
 play-run bytes [] e = refl
 play-run bytes (r ∷ rs) e = play-run bytes rs (called (play bytes r) e)

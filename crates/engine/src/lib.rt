@@ -27,8 +27,8 @@ use start::Request;
 use tone::Waveform;
 
 pub mod fills;
+mod lists;
 mod opening;
-mod requests;
 pub mod ticks;
 
 pub struct AudioEngine {

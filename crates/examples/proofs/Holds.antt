@@ -19,6 +19,7 @@ use Rattle.laws.specs.Lists.{only}
 use Rattle.mixer.specs.Mixers.{opened, fresh, banked}
 use Rattle.play.specs.Plays.{played}
 use Rattle.ranking.specs.Falling.{inserted, falling}
+use Rattle.requests.specs.Players as Q
 use Rattle.ranking.specs.Rule.{firstWhere, noneBelow, firstFree, firstLowest, lowestPriority}
 use Rattle.start.specs.Starts.{startedVoice, startAt, entryStart, requestStart}
 use Rattle.tier.specs.Kinds.{kindOf}
@@ -42,7 +43,7 @@ duties = refl
 requests :
     (handings twoVoices bell (ringing (3 ∷ 5 ∷ 5 ∷ 7 ∷ [])) ≡ some 0 ∷ some 1 ∷ some 0 ∷ some 0 ∷ [])
     × (falling (priorities (playedAll twoVoices bell (ringing (3 ∷ 5 ∷ 5 ∷ 7 ∷ [])))) ≡ 7 ∷ 5 ∷ [])
-unfolding opened fresh banked bankOf played playedAll allocated lowestPriority firstFree firstLowest firstWhere noneBelow orElse requestStart foundIn lentBank decided halving countFrom entryAt fieldsAt kindOf entryStart payloadGiven startAt startedEntry startedVoice triggeredVoice silentVoice audible activeSource active triggered beganDecay startedTone only falling inserted
+unfolding opened fresh banked bankOf played Q.playedAll allocated lowestPriority firstFree firstLowest firstWhere noneBelow orElse requestStart foundIn lentBank decided halving countFrom entryAt fieldsAt kindOf entryStart payloadGiven startAt startedEntry startedVoice triggeredVoice silentVoice audible activeSource active triggered beganDecay startedTone only falling inserted
 requests = (refl, refl)
 
 pub holds : Examples

@@ -8,7 +8,7 @@ use lib.Seq.{sets}
 use Rattle.config.specs.Config.{configured, withMasterGain}
 use Rattle.config.specs.declared.AudioConfig.{AudioConfig}
 use Rattle.engine.specs.Engines.{boxed, changedBox}
-use Rattle.engine.specs.Requests.{playedAll, outcomesOf, requestsOf}
+use Rattle.engine.specs.Requests.{playedAll, outcomesOf}
 use Rattle.engine.specs.declared.AudioEngine.{AudioEngine}
 use Rattle.engine.specs.declared.EngineChanged.{EngineChanged}
 use Rattle.error.specs.Told.{Told, value, andThen}
@@ -24,6 +24,7 @@ use Rattle.mixer.specs.Mixers.{opened, banked, panned, audibleCount, toldOutcom
 use Rattle.output.specs.declared.DutyMode.{DutyMode}
 use Rattle.output.specs.declared.DutyMode.the-variants as M
 use Rattle.play.specs.Plays.{polyBleped}
+use Rattle.requests.specs.Slices.{requestsOf}
 
 -- a choice of two policies, and of three duty modes, in flags, of which every combination means something
 abbrev pub policyOf : Bool → VoiceStealingPolicy

@@ -1,7 +1,7 @@
 -- Demand 3, from the laws of the allocation. Assumes nothing.
 use Prim.Native.Nat.{ℕ}
 use native.Mathlib.Omega.{arith}
-use mathlib.Core.Path.{_≡_, refl, sym, _∙_}
+use mathlib.Core.Path.{_≡_, refl, ap, sym, _∙_}
 use mathlib.Core.Logic.{_⊎_, ⊎-elim, inl, inr}
 use mathlib.Core.Bool.{Bool, true, false, cond, false≢true}
 use mathlib.Core.List.{List, [], _∷_, _++_, Perm, append-nil, List·Memᴰ, List·Memᴰ·head, List·Memᴰ·tail}
@@ -10,7 +10,7 @@ use lib.ListN.{length, take, getElem?}
 use lib.Seq.{take-all}
 use Rattle.ranking.specs.Falling.{inserted, falling}
 use Rattle.laws.specs.Lists.{only}
-use Rattle.ranking.specs.Box.{Box, handedAt, priorities, asks, handed, after, afterAll, lastGot}
+use Rattle.ranking.specs.Box.{Box, handedAt, priorities, asks, handed, afterAll, lastGot}
 use Rattle.ranking.specs.Demand.{Lawful, Demand}
 use Rattle.ranking.proofs.Falling.{length-falling, first-of-both}
 use Rattle.ranking.proofs.Ranks.{falling-counted, length-ranks, falling-perm}
@@ -30,85 +30,86 @@ module _ {A : Type 0} where
   last-some none false r q e = absurd (Option·none-ne-some q e)
   last-some (some p) t r q e = inl e
 
-module _ {Voice Request : Type 0} (b : Box Voice Request) where
-  length-after : (vs : List Voice) (r : Request) → length (after b vs r) ≡ length vs
-  unfolding after
-  length-after vs r = length-stored vs (handed b vs r) (b .started r)
+module _ {State Voice Request : Type 0} (b : Box State Voice Request) {Kept : State → Type 0} (laws : Lawful b Kept) where
+  length-next : (s : State) (r : Request) → Kept s → length (b .voices (b .next s r)) ≡ length (b .voices s)
+  length-next s r k = ap length (laws .stores s r k) ∙ length-stored (b .voices s) (handed b s r) (b .started r)
 
-  length-afterAll : (vs : List Voice) (rs : List Request) → length (afterAll b vs rs) ≡ length vs
+  length-all : (s : State) (rs : List Request) → Kept s → length (b .voices (afterAll b s rs)) ≡ length (b .voices s)
   unfolding afterAll
-  length-afterAll vs [] = refl
-  length-afterAll vs (r ∷ rs) = length-afterAll (after b vs r) rs ∙ length-after vs r
+  length-all s [] k = refl
+  length-all s (r ∷ rs) k = length-all (b .next s r) rs (laws .stays s r k) ∙ length-next s r k
 
-  unsound : (vs : List Voice) (r : Request) → b .sound r ≡ false → after b vs r ≡ vs
-  unfolding after handed
-  unsound vs r s = rw s
+  unsound : (s : State) (r : Request) → Kept s → b .sound r ≡ false → b .voices (b .next s r) ≡ b .voices s
+  unfolding handed
+  unsound s r k e = laws .stores s r k ∙ rw e
 
-  kept : (i : ℕ) (vs : List Voice) (r : Request) → handedAt i (handed b vs r) ≡ false → getElem? (after b vs r) i ≡ getElem? vs i
-  unfolding after
-  kept i vs r e = elsewhere vs i (handed b vs r) (b .started r) e
+  kept : (i : ℕ) (s : State) (r : Request) → Kept s → handedAt i (handed b s r) ≡ false → getElem? (b .voices (b .next s r)) i ≡ getElem? (b .voices s) i
+  kept i s r k e = ap (λ (vs : List Voice). getElem? vs i) (laws .stores s r k) ∙ elsewhere (b .voices s) i (handed b s r) (b .started r) e
 
-  unchanged : (i : ℕ) (vs : List Voice) (rs : List Request) → lastGot b i vs rs ≡ none → getElem? (afterAll b vs rs) i ≡ getElem? vs i
+  unchanged : (i : ℕ) (s : State) (rs : List Request) → Kept s → lastGot b i s rs ≡ none → getElem? (b .voices (afterAll b s rs)) i ≡ getElem? (b .voices s) i
   unfolding lastGot afterAll
-  unchanged i vs [] e = refl
-  unchanged i vs (r ∷ rs) e =
-      let k = last-none (lastGot b i (after b vs r) rs) (handedAt i (handed b vs r)) r e in
-      unchanged i (after b vs r) rs (k .0) ∙ kept i vs r (k .1)
+  unchanged i s [] k e = refl
+  unchanged i s (r ∷ rs) k e =
+      let n = last-none (lastGot b i (b .next s r) rs) (handedAt i (handed b s r)) r e in
+      unchanged i (b .next s r) rs (laws .stays s r k) (n .0) ∙ kept i s r k (n .1)
 
-module _ {Voice Request : Type 0} (b : Box Voice Request) (laws : Lawful b) where
-  step : (vs : List Voice) (r : Request) → b .sound r ≡ true
-      → falling (priorities b (after b vs r)) ≡ take (length vs) (inserted (b .asked r) (falling (priorities b vs)))
-  unfolding after handed
-  step vs r s =
-      rw s (first-of (b .audible) (b .priority) vs (b .asked r) (b .started r) (laws .sounds r s) (laws .keeps r s) (laws .allows vs (b .asked r)))
+  step : (s : State) (r : Request) → Kept s → b .sound r ≡ true
+      → falling (priorities b (b .next s r)) ≡ take (length (b .voices s)) (inserted (b .asked r) (falling (priorities b s)))
+  unfolding handed
+  step s r k e =
+      rw (laws .stores s r k, e)
+      (first-of (b .audible) (b .priority) (b .voices s) (b .asked r) (b .started r) (laws .sounds r e) (laws .keeps r e) (laws .allows s (b .asked r) k))
 
   -- what the rest of the list finds is as good as what the request found, and the request
-  carried : (vs : List Voice) (r : Request) (rs : List Request) (t : Bool) → b .sound r ≡ t
-      → take (length (after b vs r)) (falling (priorities b (after b vs r) ++ asks b rs)) ≡ take (length vs) (falling (priorities b vs ++ asks b (r ∷ rs)))
+  carried : (s : State) (r : Request) (rs : List Request) (t : Bool) → Kept s → b .sound r ≡ t
+      → take (length (b .voices (b .next s r))) (falling (priorities b (b .next s r) ++ asks b rs))
+      ≡ take (length (b .voices s)) (falling (priorities b s ++ asks b (r ∷ rs)))
   unfolding falling
-  carried vs r rs true s =
-      rw (length-after b vs r, falling-counted (b .sound) (b .asked) (priorities b vs) r rs, s)
-      (first-of-both (length vs) (priorities b (after b vs r)) (b .asked r ∷ priorities b vs) (asks b rs) (step vs r s))
-  carried vs r rs false s = rw (unsound b vs r s, falling-counted (b .sound) (b .asked) (priorities b vs) r rs, s)
+  carried s r rs true k e =
+      rw (length-next s r k, falling-counted (b .sound) (b .asked) (priorities b s) r rs, e)
+      (first-of-both (length (b .voices s)) (priorities b (b .next s r)) (b .asked r ∷ priorities b s) (asks b rs) (step s r k e))
+  carried s r rs false k e = rw (unsound s r k e, falling-counted (b .sound) (b .asked) (priorities b s) r rs, e)
 
-  ranked : (vs : List Voice) (rs : List Request) → falling (priorities b (afterAll b vs rs)) ≡ take (length vs) (falling (priorities b vs ++ asks b rs))
+  ranked : (s : State) (rs : List Request) → Kept s
+      → falling (priorities b (afterAll b s rs)) ≡ take (length (b .voices s)) (falling (priorities b s ++ asks b rs))
   unfolding afterAll only
-  ranked vs [] =
-      rw (append-nil (priorities b vs))
-      (sym (take-all (length vs) (falling (priorities b vs)) (omega (arith, length-falling (priorities b vs), length-ranks (b .audible) (b .priority) vs))))
-  ranked vs (r ∷ rs) = ranked (after b vs r) rs ∙ carried vs r rs (b .sound r) refl
+  ranked s [] k =
+      rw (append-nil (priorities b s))
+      (sym (take-all (length (b .voices s)) (falling (priorities b s)) (omega (arith, length-falling (priorities b s), length-ranks (b .audible) (b .priority) (b .voices s)))))
+  ranked s (r ∷ rs) k = ranked (b .next s r) rs (laws .stays s r k) ∙ carried s r rs (b .sound r) k refl
 
-  any-order : (vs : List Voice) (rs rs′ : List Request) → Perm rs rs′
-      → falling (priorities b (afterAll b vs rs)) ≡ falling (priorities b (afterAll b vs rs′))
-  any-order vs rs rs′ p = rw (ranked vs rs, ranked vs rs′, falling-perm (b .sound) (b .asked) (priorities b vs) rs rs′ p)
+  any-order : (s : State) (rs rs′ : List Request) → Kept s → Perm rs rs′
+      → falling (priorities b (afterAll b s rs)) ≡ falling (priorities b (afterAll b s rs′))
+  any-order s rs rs′ k p = rw (ranked s rs k, ranked s rs′ k, falling-perm (b .sound) (b .asked) (priorities b s) rs rs′ p)
 
   -- a place that a request is handed
-  place : (i : ℕ) (vs : List Voice) (r : Request) (t : Bool) → b .sound r ≡ t → handedAt i (handed b vs r) ≡ true
-      → (getElem? (after b vs r) i ≡ some (b .started r)) × (b .sound r ≡ true)
-  unfolding after handed
-  place i vs r true s h = (rw s (there (b .audible) (b .priority) vs (b .asked r) i (b .started r) (laws .allows vs (b .asked r)) (rw s at h)), s)
-  place i vs r false s h = absurd (false≢true (rw s at h))
+  place : (i : ℕ) (s : State) (r : Request) (t : Bool) → Kept s → b .sound r ≡ t → handedAt i (handed b s r) ≡ true
+      → (getElem? (b .voices (b .next s r)) i ≡ some (b .started r)) × (b .sound r ≡ true)
+  unfolding handed
+  place i s r true k e h =
+      (rw (laws .stores s r k, e) (there (b .audible) (b .priority) (b .voices s) (b .asked r) i (b .started r) (laws .allows s (b .asked r) k) (rw e at h)), e)
+  place i s r false k e h = absurd (false≢true (rw e at h))
 
-  got : (i : ℕ) (vs : List Voice) (rs : List Request) (q : Request) → lastGot b i vs rs ≡ some q
-      → (getElem? (afterAll b vs rs) i ≡ some (b .started q)) × (b .sound q ≡ true) × List·Memᴰ q rs
+  got : (i : ℕ) (s : State) (rs : List Request) (q : Request) → Kept s → lastGot b i s rs ≡ some q
+      → (getElem? (b .voices (afterAll b s rs)) i ≡ some (b .started q)) × (b .sound q ≡ true) × List·Memᴰ q rs
   unfolding lastGot afterAll
-  got i vs [] q e = absurd (Option·none-ne-some q e)
-  got i vs (r ∷ rs) q e =
+  got i s [] q k e = absurd (Option·none-ne-some q e)
+  got i s (r ∷ rs) q k e =
       ⊎-elim
-      (λ x. let k = got i (after b vs r) rs q x in (k .0, k .1, List·Memᴰ·tail (k .2)))
+      (λ x. let g = got i (b .next s r) rs q (laws .stays s r k) x in (g .0, g .1, List·Memᴰ·tail (g .2)))
       (λ x.
-      let k = place i vs r (b .sound r) refl (x .1) in
-      (unchanged b i (after b vs r) rs (x .0) ∙ rw (← x .2) (k .0), rw (← x .2) (k .1), List·Memᴰ·head (sym (x .2))))
-      (last-some (lastGot b i (after b vs r) rs) (handedAt i (handed b vs r)) r q e)
+      let g = place i s r (b .sound r) k refl (x .1) in
+      (unchanged i (b .next s r) rs (laws .stays s r k) (x .0) ∙ rw (← x .2) (g .0), rw (← x .2) (g .1), List·Memᴰ·head (sym (x .2))))
+      (last-some (lastGot b i (b .next s r) rs) (handedAt i (handed b s r)) r q e)
 
   -- demand 3
-  pub demand : Demand b
-  demand =
+  pub demand : (s : State) (rs : List Request) → Kept s → Demand b Kept s rs
+  demand s rs k =
       record {
-        ranked = ranked;
-        unchanged = unchanged b;
-        last = λ i vs rs r e. got i vs rs r e .0;
-        got = λ i vs rs r e. let k = got i vs rs r e in (k .1, k .2);
-        anyOrder = any-order;
-        voices = length-afterAll b;
+        ranked = ranked s rs k;
+        unchanged = λ i e. unchanged i s rs k e;
+        last = λ i r e. got i s rs r k e .0;
+        got = λ i r e. let g = got i s rs r k e in (g .1, g .2);
+        anyOrder = λ rs′ p. any-order s rs rs′ k p;
+        voices = length-all s rs k;
       }

@@ -3,8 +3,8 @@ use Prim.Native.Nat.{_+_, _<_}
 use borrow.Author.Needs.{needs}
 use native.Mathlib.Omega.{arith}
 use lib.ListN.{getD}
-use Rattle.engine.proofs.requests.big16_at.Statement.{statement}
-use Rattle.engine.proofs.requests.big16_at.Tie as tie
+use Rattle.requests.proofs.big16_at.Statement.{statement}
+use Rattle.requests.proofs.big16_at.Tie as tie
 
 record Bytes (c : tie.After-shared-slice-known2) : Type 0 where
   high : getD (c .before .before .args .l .now) (c .before .before .args .k) 0 < 256

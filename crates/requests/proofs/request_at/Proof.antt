@@ -1,8 +1,8 @@
 -- Each field at its place. Assumes nothing.
 use borrow.Author.Needs.{needs}
-use Rattle.engine.specs.Requests.{requestAt}
-use Rattle.engine.proofs.requests.request_at.Statement.{statement}
-use Rattle.engine.proofs.requests.request_at.Tie as tie
+use Rattle.requests.specs.Slices.{requestAt}
+use Rattle.requests.proofs.request_at.Statement.{statement}
+use Rattle.requests.proofs.request_at.Tie as tie
 
 returns : tie.Need-returns
 unfolding requestAt

@@ -1,9 +1,9 @@
--- `engine::requests::tell` meets its contract: a cell past the end is not there to be set.
+-- `requests::tell` meets its contract: a cell past the end is not there to be set.
 use borrow.Author.Needs.{needs}
 use mathlib.Core.Path.{sym}
 use lib.Seq.{set-out}
-use Rattle.engine.proofs.requests.tell.Statement.{statement}
-use Rattle.engine.proofs.requests.tell.Tie as tie
+use Rattle.requests.proofs.tell.Statement.{statement}
+use Rattle.requests.proofs.tell.Tie as tie
 
 returns-2 : tie.Need-returns-2
 returns-2 c = sym (set-out _ _ _ (c .if1 .left))

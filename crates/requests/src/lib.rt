@@ -1,0 +1,113 @@
+// A list of play requests, ten bytes each, to the state of a box: a part of every box that takes them.
+ghost use mathlib.Core.Path.{_≡_};
+ghost use Prim.Native.Nat.{_+_, _≤_};
+ghost use lib.ListN.{length, set};
+ghost use Rattle.laws.specs.Made.{Made};
+ghost use Rattle.marks.specs.Marks.{Valid};
+ghost use Rattle.play.specs.Plays.{toldPlay};
+ghost use Rattle.requests.specs.Presents.{startedAt, ValidPresentPlayed, playedPresent, present};
+ghost use Rattle.requests.specs.Slices.{big16At, requestAt, PlaysEach};
+use allocate::ranks::rank;
+use allocate::ranks::ranks_of;
+use envelope::AdsrSpec;
+use marks::Mark;
+use marks::Marks;
+use marks::Present;
+use play::PlayOutcome;
+use play::places::Placed;
+use play::places::place;
+use start::Request;
+
+// A state of the present rules, and the voice that the request got.
+pub struct PresentPlayed {
+    pub outcome: PlayOutcome,
+    pub present: Present,
+}
+
+// The marks with that of a voice that a request got.
+fn marked(marks: Marks, outcome: PlayOutcome) -> Marks
+    ensures { λ r. ⌜ r ≡ startedAt (toldPlay outcome) marks ⌝ }
+{
+    match outcome {
+        PlayOutcome::Refused(_) => marks,
+        PlayOutcome::Voice(i) => marks.started(i),
+    }
+}
+
+pub fn play_request(p: Present, bytes: &[u8], request: Request) -> PresentPlayed
+    requires { ⌜ Valid p ⌝ }
+    ensures { λ r. ⌜ Made ValidPresentPlayed (playedPresent p (now (bytes .entry)) request) r ⌝ }
+{
+    let m = p.mixer;
+    let k = p.marks;
+    let played = play::play_request(m, bytes, request);
+    let outcome = played.outcome;
+    let mixer = played.mixer;
+    let marks = marked(k, outcome);
+    PresentPlayed {
+        outcome,
+        present: Present { mixer, marks },
+    }
+}
+
+fn big16_at(l: &[u8], k: usize) -> u16
+    requires { ⌜ k + 2 ≤ length (now l) ⌝ }
+    ensures { λ r. ⌜ r ≡ big16At (now (l .entry)) k ⌝ }
+{
+    256 * (l[k] as u16) + (l[k + 1] as u16)
+}
+
+fn request_at(l: &[u8], k: usize) -> Request
+    requires { ⌜ k + 10 ≤ length (now l) ⌝ }
+    ensures { λ r. ⌜ r ≡ requestAt (now (l .entry)) k ⌝ }
+{
+    let adsr = AdsrSpec {
+        attack_ms: big16_at(l, k + 2),
+        decay_ms: big16_at(l, k + 4),
+        sustain_q8: l[k + 6],
+        release_ms: big16_at(l, k + 7),
+    };
+    Request {
+        id: big16_at(l, k),
+        adsr,
+        priority: l[k + 9],
+    }
+}
+
+// A cell that is not there is told nothing.
+fn tell(outcomes: &mut [u16], i: usize, cell: u16)
+    ensures { λ r. ⌜ now (outcomes .exit) ≡ set (now (outcomes .entry)) i cell ⌝ }
+{
+    if i < outcomes.len() {
+        outcomes[i] = cell;
+    }
+}
+
+// Plays every request of the slice, one after another, and tells each one's outcome in a cell of its own, as far as there are cells: the voice
+// that it got, or 256 × its refusal's number and 255. Fewer than ten bytes at the slice's end are no request. Voices and their ranks stay in locals,
+// since a state handed over for each request would cost more in copies than the request.
+pub fn play_each(p: Present, bytes: &[u8], requests: &[u8], outcomes: &mut [u16]) -> Present
+    requires { ⌜ Valid p ⌝ }
+    ensures { λ r. ⌜ PlaysEach present Valid p (now (bytes .entry)) (now (requests .entry)) (now (outcomes .entry)) r (now (outcomes .exit)) ⌝ }
+{
+    let count = requests.len() / 10;
+    let mut mixer = p.mixer;
+    let mut marks = p.marks;
+    let voices = mixer.voices;
+    let mut ranks = ranks_of(voices);
+    for i in 0..count {
+        let request = request_at(requests, 10 * i);
+        let bank = mixer.bank;
+        let policy = mixer.stealing_policy;
+        match place(&ranks, mixer.n, policy, bank, bytes, request) {
+            Placed::Refused(e) => tell(outcomes, i, 256 * (e.number() as u16) + 255),
+            Placed::Voice(k, v) => {
+                ranks[k] = rank(v);
+                mixer.voices[k] = v;
+                marks.voices[k] = Mark { whole: true };
+                tell(outcomes, i, k as u16);
+            }
+        }
+    }
+    Present { mixer, marks }
+}

@@ -2,7 +2,16 @@
 
 use crate::job::{Job, Script};
 
+/// Which box does the job.
+#[derive(Clone, Copy)]
+pub enum Rules {
+    Document01,
+    #[cfg(feature = "present")]
+    Document02,
+}
+
 pub struct Case {
+    pub rules: Rules,
     pub name: String,
     /// Of what the job does many, and how many.
     pub unit: &'static str,
@@ -80,6 +89,7 @@ fn sounding(n: usize, kind: u8, envelope: &Envelope) -> Script {
 
 fn frames(name: &str, job: Job, script: Script) -> Case {
     Case {
+        rules: Rules::Document01,
         name: format!("{name}, {} voices", script.n),
         unit: "frame",
         units: LENGTH,
@@ -141,6 +151,7 @@ fn plays(n: usize, cases: &mut Vec<Case>) {
             })
             .collect();
         cases.push(Case {
+            rules: Rules::Document01,
             name: format!("play, {name}, {n} voices"),
             unit: "request",
             units: 4 * count,
@@ -167,6 +178,7 @@ fn searches(count: u16, cases: &mut Vec<Case>) {
     for (name, ids) in lists {
         let times = SEARCHES.div_ceil(ids.len());
         cases.push(Case {
+            rules: Rules::Document01,
             name: format!("search, {count} entries, {name}"),
             unit: "search",
             units: times * ids.len(),
@@ -181,7 +193,8 @@ fn searches(count: u16, cases: &mut Vec<Case>) {
     }
 }
 
-pub fn all() -> Vec<Case> {
+/// Frames and requests, which a box does.
+fn boxed() -> Vec<Case> {
     let mut cases = vec![];
     for n in [2, 16] {
         pcm(n, &mut cases);
@@ -190,8 +203,42 @@ pub fn all() -> Vec<Case> {
     for n in [2, 16] {
         plays(n, &mut cases);
     }
+    cases
+}
+
+/// The same jobs done by a box of the present rules, and frames of voices all of whose gains are 255.
+#[cfg(feature = "present")]
+fn present() -> Vec<Case> {
+    let mut cases = boxed();
+    for n in [2, 16] {
+        let jobs: [(&str, fn(usize) -> Job); 2] = [("mono", Job::Mono), ("stereo", Job::Stereo)];
+        for (name, job) in jobs {
+            let name = format!("{name}, tone, full gains");
+            cases.push(frames(&name, job(LENGTH), full(sounding(n, TONE, &PAD))));
+        }
+    }
+    for case in &mut cases {
+        case.rules = Rules::Document02;
+        case.name = format!("present rules: {}", case.name);
+    }
+    cases
+}
+
+/// With every entry's gain and every sustain at 255; the master's is.
+#[cfg(feature = "present")]
+fn full(mut script: Script) -> Script {
+    let gains = script.bank.iter_mut().skip(10 + 4).step_by(16);
+    let sustains = script.requests.iter_mut().skip(6).step_by(10);
+    gains.chain(sustains).for_each(|byte| *byte = 255);
+    script
+}
+
+pub fn all() -> Vec<Case> {
+    let mut cases = boxed();
     for count in [255, 4095] {
         searches(count, &mut cases);
     }
+    #[cfg(feature = "present")]
+    cases.extend(present());
     cases
 }

@@ -5,30 +5,67 @@
 
 mod cases;
 mod job;
-mod original;
-mod port;
+mod library;
+
+/// The two sides of document 01's box.
+#[path = "."]
+mod document_01 {
+    use crate::library::document_01 as library;
+    use oracle as source;
+
+    pub mod original;
+    pub mod port;
+}
+
+/// The same files for the box of the present rules.
+#[cfg(feature = "present")]
+#[path = "."]
+mod document_02 {
+    use crate::library::document_02 as library;
+    use present as source;
+
+    pub mod original;
+    pub mod port;
+}
 
 use std::time::{Duration, Instant};
 
-use cases::Case;
+use cases::{Case, Rules};
 use job::{Answer, Job, Script, run};
 
 /// For each case, and no fewer rounds than this.
 const TIME: Duration = Duration::from_millis(1500);
 const ROUNDS: usize = 15;
 
+type Do = fn(&Job, &Script, &mut Answer);
+
+/// The original's and the port's side of a box.
+fn sides(rules: Rules) -> [Do; 2] {
+    match rules {
+        Rules::Document01 => [
+            run::<document_01::original::Original>,
+            run::<document_01::port::Port>,
+        ],
+        #[cfg(feature = "present")]
+        Rules::Document02 => [
+            run::<document_02::original::Original>,
+            run::<document_02::port::Port>,
+        ],
+    }
+}
+
 // Callgrind knows the two by these names.
 
 #[unsafe(no_mangle)]
 #[inline(never)]
 extern "C" fn bench_original(case: &Case, answer: &mut Answer) {
-    run::<original::Original>(&case.job, &case.script, answer);
+    sides(case.rules)[0](&case.job, &case.script, answer);
 }
 
 #[unsafe(no_mangle)]
 #[inline(never)]
 extern "C" fn bench_port(case: &Case, answer: &mut Answer) {
-    run::<port::Port>(&case.job, &case.script, answer);
+    sides(case.rules)[1](&case.job, &case.script, answer);
 }
 
 type Run = extern "C" fn(&Case, &mut Answer);
@@ -41,20 +78,21 @@ fn timed(run: Run, case: &Case, answer: &mut Answer, least: &mut Duration) {
 }
 
 /// Once each: the answers are the same and tell something.
-fn compare_job(name: &str, job: &Job, script: &Script) {
-    let empty = Answer::to(job);
-    let (mut original, mut port) = (empty.clone(), empty);
-    run::<original::Original>(job, script, &mut original);
-    run::<port::Port>(job, script, &mut port);
-    assert!(original == port, "{name}: answers differ");
-    assert!(original.is_telling(), "{name}: silence");
+fn compare_job(case: &Case, job: &Job) {
+    let [original, port] = sides(case.rules).map(|side| {
+        let mut answer = Answer::to(job);
+        side(job, &case.script, &mut answer);
+        answer
+    });
+    assert!(original == port, "{}: answers differ", case.name);
+    assert!(original.is_telling(), "{}: silence", case.name);
 }
 
 /// Requests alone answer little, so what then sounds is compared too.
 fn compare(case: &Case) {
-    compare_job(&case.name, &case.job, &case.script);
+    compare_job(case, &case.job);
     if let Job::Play(_) = case.job {
-        compare_job(&case.name, &Job::Mono(2048), &case.script);
+        compare_job(case, &Job::Mono(2048));
     }
 }
 

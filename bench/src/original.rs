@@ -1,12 +1,12 @@
-//! The Rust original.
+//! The Rust original, as it is or with document 02's replacements.
 
-use oracle::bank::SoundBank;
-use oracle::config::AudioConfig;
-use oracle::engine::AudioEngine;
-use oracle::envelope::AdsrSpec;
-use oracle::error::AudioError;
-use oracle::output::DutyMode;
-use oracle::synth::PolyBlepWaveform;
+use super::source::bank::SoundBank;
+use super::source::config::AudioConfig;
+use super::source::engine::AudioEngine;
+use super::source::envelope::AdsrSpec;
+use super::source::error::AudioError;
+use super::source::output::DutyMode;
+use super::source::synth::PolyBlepWaveform;
 
 use crate::job::{Script, Side};
 

@@ -1,9 +1,6 @@
 //! The port, over its static library, by the bare declarations of the crate for Rust: its safe functions would copy the requests.
 
-use birchjack::raw::{
-    birchjack_duty, birchjack_find, birchjack_pcm_i16, birchjack_play, birchjack_stereo_i16,
-};
-
+use super::library;
 use crate::job::{Script, Side};
 
 pub struct Port;
@@ -28,7 +25,7 @@ fn written(number: u8, cells: usize) -> usize {
 impl Side for Port {
     fn find(bank: &[u8], rate: u32, count: u16, id: u16, entry: &mut [u32; 8]) -> u8 {
         // SAFETY: none of these calls has a `requires`; each slice lives and is no other's during the call.
-        unsafe { birchjack_find(bank.as_ptr(), bank.len(), rate, count, id, entry) }
+        unsafe { library::find(bank.as_ptr(), bank.len(), rate, count, id, entry) }
     }
 
     fn play(script: &Script) -> usize {
@@ -36,7 +33,7 @@ impl Side for Port {
         let (outcomes, mut audible): (&mut [u16], usize) = (&mut [], 0);
         // SAFETY: as above.
         unsafe {
-            birchjack_play(
+            library::play(
                 script.n,
                 false,
                 bank.as_ptr(),
@@ -58,7 +55,7 @@ impl Side for Port {
         let (waveform, hz, ms) = tone(script);
         // SAFETY: as above.
         let number = unsafe {
-            birchjack_pcm_i16(
+            library::pcm_i16(
                 script.n,
                 false,
                 GAIN,
@@ -83,7 +80,7 @@ impl Side for Port {
         let (waveform, hz, ms) = tone(script);
         // SAFETY: as above.
         let number = unsafe {
-            birchjack_stereo_i16(
+            library::stereo_i16(
                 script.n,
                 false,
                 GAIN,
@@ -110,7 +107,7 @@ impl Side for Port {
         let (waveform, hz, ms) = tone(script);
         // SAFETY: as above.
         let number = unsafe {
-            birchjack_duty(
+            library::duty(
                 script.n,
                 false,
                 GAIN,

@@ -1,4 +1,4 @@
-include!("../upstream/crates/embedded-audio/src/bank.rs");
+original!("bank.rs");
 
 impl<'a> SoundBank<'a> {
     /// A bank over lent bytes. The replay format gives rate and count beside the bytes; upstream's `parse` reads them from

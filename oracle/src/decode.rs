@@ -1,7 +1,9 @@
-#[path = "../upstream/crates/embedded-audio/src/decode/adpcm.rs"]
-pub mod adpcm;
-#[path = "../upstream/crates/embedded-audio/src/decode/pcm.rs"]
-pub mod pcm;
+pub mod adpcm {
+    original!("decode/adpcm.rs");
+}
+pub mod pcm {
+    original!("decode/pcm.rs");
+}
 
 pub use adpcm::{AdpcmDecoder, AdpcmStream};
 pub use pcm::Pcm8Stream;

@@ -1,4 +1,4 @@
-include!("../upstream/crates/embedded-audio/src/engine.rs");
+original!("engine.rs");
 
 use crate::Peek;
 

@@ -1,4 +1,4 @@
-include!("../upstream/crates/embedded-audio/src/envelope.rs");
+original!("envelope.rs");
 
 impl crate::Peek for Adsr {
     fn peek(&self, to: &mut alloc::vec::Vec<i64>) {

@@ -1,9 +1,9 @@
-//! The Rust original as a library: the files of `upstream/`, unchanged, under a crate root of our own, since the published
-//! root is not among them.
+//! The Rust original as a library: the files of `upstream/` under a crate root of our own, since the published root is not among
+//! them. This root makes two crates: `oracle`, of the files as they are, and `present`, of the files with document 02's replacements
+//! (`replacements.rs`).
 //!
-//! Comparing state needs private fields. A module whose state is compared takes its upstream file in by `include!`: what
-//! stands beside the `include!` belongs to the same module and sees them. `include!` refuses a file that begins with `//!`,
-//! which of these is only `polyblep.rs`; `build.rs` hands it on without those lines. Every other file comes in by `#[path]`.
+//! `build.rs` lays the files out, and a module takes its own in by `include!`: what stands beside the `include!` belongs to the same
+//! module and sees private fields, which comparing state needs.
 
 #![cfg_attr(not(feature = "std"), no_std)]
 
@@ -17,18 +17,37 @@ pub trait Peek {
     fn peek(&self, to: &mut Vec<i64>);
 }
 
-#[path = "../upstream/crates/embedded-audio/src/config.rs"]
-pub mod config;
-#[path = "../upstream/crates/embedded-audio/src/error.rs"]
-pub mod error;
-#[path = "../upstream/crates/embedded-audio/src/fixed.rs"]
-pub mod fixed;
-#[path = "../upstream/crates/embedded-audio/src/pluck.rs"]
-pub mod pluck;
-#[path = "../upstream/crates/embedded-audio/src/source.rs"]
-pub mod source;
-#[path = "../upstream/crates/embedded-audio/src/tier.rs"]
-pub mod tier;
+pub fn state_of(value: &impl Peek) -> Vec<i64> {
+    let mut state = Vec::new();
+    value.peek(&mut state);
+    state
+}
+
+/// The items of a file of the original.
+macro_rules! original {
+    ($file:literal) => {
+        include!(concat!(env!("OUT_DIR"), "/", $file));
+    };
+}
+
+pub mod config {
+    original!("config.rs");
+}
+pub mod error {
+    original!("error.rs");
+}
+pub mod fixed {
+    original!("fixed.rs");
+}
+pub mod pluck {
+    original!("pluck.rs");
+}
+pub mod source {
+    original!("source.rs");
+}
+pub mod tier {
+    original!("tier.rs");
+}
 
 pub mod bank;
 pub mod decode;

@@ -1,4 +1,4 @@
-include!("../upstream/crates/embedded-audio/src/output.rs");
+original!("output.rs");
 
 impl SigmaDelta {
     /// A shaper whose sum is already `integrator`: record 57 begins with any sum, also one that would take millions of

@@ -1,4 +1,5 @@
-#[path = "../upstream/crates/embedded-audio/src/stream/sigma_delta_bits.rs"]
-pub mod sigma_delta_bits;
+pub mod sigma_delta_bits {
+    original!("stream/sigma_delta_bits.rs");
+}
 
 pub use sigma_delta_bits::SigmaDeltaBitStream;

@@ -1,5 +1,5 @@
 pub mod tone {
-    include!("../upstream/crates/embedded-audio/src/synth/tone.rs");
+    original!("synth/tone.rs");
 
     impl crate::Peek for ToneVoice {
         fn peek(&self, to: &mut alloc::vec::Vec<i64>) {
@@ -15,7 +15,7 @@ pub mod tone {
 }
 
 pub mod fm {
-    include!("../upstream/crates/embedded-audio/src/synth/fm.rs");
+    original!("synth/fm.rs");
 
     impl crate::Peek for FmVoice {
         fn peek(&self, to: &mut alloc::vec::Vec<i64>) {
@@ -32,7 +32,7 @@ pub mod fm {
 }
 
 pub mod polyblep {
-    include!(concat!(env!("OUT_DIR"), "/polyblep.rs"));
+    original!("synth/polyblep.rs");
 
     impl crate::Peek for PolyBlepVoice {
         fn peek(&self, to: &mut alloc::vec::Vec<i64>) {
@@ -65,8 +65,9 @@ pub mod polyblep {
     }
 }
 
-#[path = "../upstream/crates/embedded-audio/src/synth/wavetable.rs"]
-pub mod wavetable;
+pub mod wavetable {
+    original!("synth/wavetable.rs");
+}
 
 pub use fm::FmVoice;
 pub use polyblep::{PolyBlepOscillator, PolyBlepVoice, PolyBlepWaveform};

@@ -1,4 +1,4 @@
-include!("../upstream/crates/embedded-audio/src/voice.rs");
+original!("voice.rs");
 
 use crate::Peek;
 

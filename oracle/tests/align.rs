@@ -105,12 +105,14 @@ fn a_bad_line_ends_the_run() {
     assert_eq!(count("unopened", &["12", "19", "19"], &["FFFF"]), "2 0 0\n");
     let refused = ["101100001F4003E800FF00", "1800", "19"];
     assert_eq!(count("refused", &refused, &["01", "FFFF"]), "2 0 0\n");
-    // These answers look like one to a bad line.
-    let like = [OPEN, "4380", "52FFFF0000", "2B", "19"];
-    assert_eq!(
-        count("like", &like, &["00", "FFFF", "FFFF", "FFFF"]),
-        "5 0 0\n"
-    );
+    // These answers look like one to a bad line, in a box of either document.
+    for open in [OPEN, &OPEN.replacen("10", "70", 1)] {
+        let like = [open, "4380", "52FFFF0000", "2B", "19"];
+        assert_eq!(
+            count("like", &like, &["00", "FFFF", "FFFF", "FFFF"]),
+            "5 0 0\n"
+        );
+    }
 }
 
 #[test]

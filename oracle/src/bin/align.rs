@@ -51,7 +51,8 @@ fn align<'a>(script: &'a [u8], answers: &'a [u8]) -> impl Iterator<Item = Aligne
         let first = answers.next()?;
         let mut answer = vec![first];
         answer.extend(answers.by_ref().take(more_lines(record, first)));
-        open |= record.starts_with(b"10") && first == b"00";
+        let opens = record.starts_with(b"10") || record.starts_with(b"70");
+        open |= opens && first == b"00";
         ended = first == BAD && !LIKE_BAD.iter().any(|form| form.fits(record, open));
         Some((record, answer))
     })

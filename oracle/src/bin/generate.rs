@@ -33,7 +33,6 @@ mod signals;
 #[path = "generate/sources.rs"]
 mod sources;
 
-use draw::Draw;
 use script::Script;
 
 const USAGE: &str = "usage: generate random SEED COUNT  COUNT good records
@@ -43,7 +42,9 @@ const USAGE: &str = "usage: generate random SEED COUNT  COUNT good records
        generate engine NAME SEED COUNT  a run of an engine: COUNT banks for banks, else about or up to COUNT records
        generate engine-names       the names of the runs without frames
        generate frame-names        the names of the runs with frames
-       generate recorded [engine|frames]  the recorded list, with an engine's records and its frames if asked";
+       generate recorded [engine|frames]  the recorded list, with an engine's records and its frames if asked
+       generate present ...        any of these with boxes of both documents and the records of the present rules; names of the sets
+                                   that these add";
 
 fn main() {
     let arguments: Vec<String> = std::env::args().skip(1).collect();
@@ -56,6 +57,13 @@ fn main() {
 
 fn print(arguments: &[&str]) -> Option<()> {
     let mut script = Script::new();
+    let arguments = match arguments {
+        ["present", rest @ ..] => {
+            script.present = true;
+            rest
+        }
+        all => all,
+    };
     match arguments {
         ["random", seed, count] => {
             random_script(&mut script, seed.parse().ok()?, count.parse().ok()?)
@@ -66,6 +74,7 @@ fn print(arguments: &[&str]) -> Option<()> {
         ["engine", name, seed, count] => {
             engine::print(&mut script, name, seed.parse().ok()?, count.parse().ok()?)?
         }
+        ["names"] if script.present => names(&mut script, &sets::PRESENT_SETS),
         ["names"] => names(&mut script, &sets::SETS),
         ["engine-names"] => names(&mut script, &engine::NAMES),
         ["frame-names"] => names(&mut script, &engine::FRAME_NAMES),
@@ -85,7 +94,7 @@ fn names<T>(script: &mut Script, named: &[(&str, T)]) {
 }
 
 fn random_script(script: &mut Script, seed: u64, count: u64) {
-    let mut draw = Draw::new(seed);
+    let mut draw = script.draw(seed);
     for _ in 0..count {
         script.add(&random::any(&mut draw));
     }

@@ -1,18 +1,17 @@
 //! Reads a script on standard input and prints the Rust original's answers: the records of the replay format, our own 50 to
-//! 6A, and 80, 81, 84 and 85, which the original has not (docs/REPLAY.md). A bad line prints FFFF and ends the run.
+//! 6A, and those of document 02 (docs/REPLAY.md): 70 and 82 by the original with its replacements, 79 by the original, and 80, 81,
+//! 84 and 85, which the original has not. A bad line prints FFFF and ends the run.
 
 #[path = "replay/answers.rs"]
 mod answers;
-#[path = "replay/engine.rs"]
-mod engine;
+#[path = "replay/calls.rs"]
+mod calls;
 #[path = "replay/fields.rs"]
 mod fields;
-#[path = "replay/frames.rs"]
-mod frames;
 #[path = "replay/lengths.rs"]
 mod lengths;
-#[path = "replay/rules.rs"]
-mod rules;
+#[path = "replay/numbers.rs"]
+mod numbers;
 #[path = "replay/signals.rs"]
 mod signals;
 #[path = "replay/sounds.rs"]
@@ -20,22 +19,52 @@ mod sounds;
 #[path = "replay/steps.rs"]
 mod steps;
 
+/// The records of an engine, answered by the original as it is.
+#[path = "replay"]
+mod document_01 {
+    use oracle as original;
+
+    pub mod choices;
+    pub mod engine;
+    mod frames;
+    mod rules;
+}
+
+/// The same files over the original with document 02's replacements.
+#[path = "replay"]
+mod document_02 {
+    use present as original;
+
+    mod choices;
+    pub mod engine;
+    mod frames;
+    mod rules;
+}
+
 use answers::Answers;
-use engine::{Call, MOST_LENT, Mixer};
+use calls::{Call, MOST_LENT, Mixer};
 use fields::{Answered, Bad, Fields, LONGEST, decode};
+use numbers::Ruled;
 use std::io::{self, BufRead, BufReader, Read, Write};
 
 /// Answers are handed on in pieces of about this size.
 const PIECE: usize = 1 << 16;
 
-const OPEN: u8 = 0x10;
 const OPEN_LENGTH: usize = 10;
 const LEND: u8 = 0x12;
+
+type Opened = Result<Ruled<Box<dyn Mixer>>, Bad>;
+
+/// The records that open an engine: document 01's, and one of the present rules.
+const OPENS: [(u8, fn(&mut Fields) -> Opened); 2] = [
+    (0x10, document_01::engine::open),
+    (0x70, document_02::engine::open),
+];
 
 type Answer = fn(&mut Fields, &mut Answers) -> Answered;
 
 /// The records that need no engine: code, least and greatest number of bytes after it, and what answers it.
-const ALONE: [(u8, usize, usize, Answer); 26] = [
+const ALONE: [(u8, usize, usize, Answer); 27] = [
     (0x40, 2, 2, steps::gain),
     (0x41, 3, 3, steps::lerp),
     (0x42, 4, 4, steps::limiter),
@@ -60,6 +89,7 @@ const ALONE: [(u8, usize, usize, Answer); 26] = [
     (0x6A, 11, 11, sounds::oscillator_from_bits),
     (0x80, 10, 10, signals::pattern),
     (0x81, 4, 4_096, signals::reader),
+    (0x82, 2, 2, steps::present_gain),
     (0x84, 6, 6, lengths::length),
     (0x85, 10, 10, lengths::carrying),
 ];
@@ -98,7 +128,7 @@ fn read_line(input: &mut impl BufRead, line: &mut Vec<u8>) -> io::Result<bool> {
     Ok(taken > 0)
 }
 
-/// What stays from record to record.
+/// What stays from record to record: the engine opened last, of either document, and what is lent.
 #[derive(Default)]
 struct Run {
     engine: Option<Box<dyn Mixer>>,
@@ -108,8 +138,8 @@ struct Run {
 impl Run {
     fn answer(&mut self, record: &[u8], answers: &mut Answers) -> Answered {
         let (&code, fields) = record.split_first().ok_or(Bad)?;
-        if code == OPEN {
-            return self.open(fields, answers);
+        if let Some((_, open)) = OPENS.iter().find(|record| record.0 == code) {
+            return self.open(*open, fields, answers);
         }
         if code == LEND {
             return self.lend(fields);
@@ -126,11 +156,16 @@ impl Run {
     }
 
     /// An engine that is refused leaves the old one.
-    fn open(&mut self, fields: &[u8], answers: &mut Answers) -> Answered {
+    fn open(
+        &mut self,
+        open: fn(&mut Fields) -> Opened,
+        fields: &[u8],
+        answers: &mut Answers,
+    ) -> Answered {
         if fields.len() != OPEN_LENGTH {
             return Err(Bad);
         }
-        let opened = engine::open(&mut Fields(fields))?;
+        let opened = open(&mut Fields(fields))?;
         answers.number(opened.map(|engine| self.engine = Some(engine)))
     }
 

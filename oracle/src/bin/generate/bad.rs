@@ -1,7 +1,7 @@
 //! A script with one bad line, after which nothing is answered.
 
 use crate::draw::Draw;
-use crate::enginebad::{ENGINE, FRAMES};
+use crate::enginebad::{ENGINE, FRAMES, OPEN_PRESENT};
 use crate::random::{self, RECORDS};
 use crate::script::{Line, Script, mapper};
 use crate::signals;
@@ -21,7 +21,7 @@ const BAD: [fn(&mut Draw) -> Line; 9] = [
 ];
 
 pub fn print(script: &mut Script, seed: u64, count: u32) {
-    let mut draw = Draw::new(seed);
+    let mut draw = script.draw(seed);
     for _ in 0..draw.below(count + 1) {
         script.add(&random::any(&mut draw));
     }
@@ -41,7 +41,7 @@ fn unknown_code(draw: &mut Draw) -> Line {
         let code = draw.u8();
         let known = RECORDS.iter().any(|record| record.0 == code);
         // An engine's records are left out: they would be good here at times.
-        if !known && !ENGINE.contains(&code) && !FRAMES.contains(&code) {
+        if !known && !ENGINE.contains(&code) && !FRAMES.contains(&code) && code != OPEN_PRESENT {
             break code;
         }
     };

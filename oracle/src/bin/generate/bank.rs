@@ -158,7 +158,7 @@ fn push_entry(bytes: &mut Vec<u8>, draw: &mut Draw, id: u16, length: usize, styl
         false => place_within(draw, length),
     };
     bytes.extend(id.to_le_bytes());
-    bytes.extend([kind, draw.u8(), draw.u8(), draw.u8()]);
+    bytes.extend([kind, draw.u8(), draw.gain(), draw.u8()]);
     bytes.extend(param0.to_le_bytes());
     bytes.extend(draw.pick(&[0, 1, 5, short, short, param1]).to_le_bytes());
     bytes.extend(offset.to_le_bytes());

@@ -9,9 +9,10 @@ const SIZES: u64 = 201;
 const HIGHEST_RATE: u32 = 65_537;
 
 pub fn print(script: &mut Script, seed: u64, count: u64) {
-    let mut draw = Draw::new(seed);
+    let mut draw = script.draw(seed);
     let draw = &mut draw;
     open(script, draw);
+    script.after_each = if script.present { &[0x30] } else { &[] };
     for number in 0..count {
         let large = MOST_ENTRIES - draw.below(55) as usize;
         let size = match draw.one_in(12) {
@@ -26,6 +27,7 @@ pub fn print(script: &mut Script, seed: u64, count: u64) {
             look(script, draw, &bank, 3);
         }
     }
+    script.after_each = &[];
 }
 
 fn open(script: &mut Script, draw: &mut Draw) {
@@ -37,7 +39,7 @@ fn open(script: &mut Script, draw: &mut Draw) {
         u8(255),
         u8(0),
     ];
-    script.record(0x10, &fields);
+    script.record(draw.open_code(), &fields);
 }
 
 fn one_bank(script: &mut Script, draw: &mut Draw, size: usize) {

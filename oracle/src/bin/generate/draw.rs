@@ -6,13 +6,19 @@ use crate::edges;
 pub struct Draw {
     state: u64,
     large: bool,
+    /// Boxes of both documents and the records of the present rules; without it nothing else is drawn than before there were any.
+    pub present: bool,
 }
 
 impl Draw {
     pub fn new(seed: u64) -> Self {
         // The state must not be 0, and near seeds must not begin alike.
         let state = (seed ^ 0x9E37_79B9_7F4A_7C15).wrapping_mul(0xBF58_476D_1CE4_E5B9) | 1;
-        let mut draw = Self { state, large: true };
+        let mut draw = Self {
+            state,
+            large: true,
+            present: false,
+        };
         for _ in 0..8 {
             draw.bits();
         }
@@ -49,6 +55,30 @@ impl Draw {
         match self.below(3) {
             0 => self.pick(&edges::BYTES),
             _ => self.bits() as u8,
+        }
+    }
+
+    /// The code of an open record: document 01's box or one of the present rules.
+    pub fn open_code(&mut self) -> u8 {
+        match self.present {
+            true => self.pick(&[0x10, 0x70, 0x70]),
+            false => 0x10,
+        }
+    }
+
+    /// A gain: where the present rules run half of them are those around which the rule changes.
+    pub fn gain(&mut self) -> u8 {
+        match self.present && self.one_in(2) {
+            true => self.pick(&[253, 254, 255, 255]),
+            false => self.u8(),
+        }
+    }
+
+    /// A pan: half of them likewise. To both sides of the middle one side's gain is 255 and the other's is next to it.
+    pub fn pan(&mut self) -> u8 {
+        match self.present && self.one_in(2) {
+            true => self.pick(&[0, 1, 126, 127, 128, 128, 129, 130, 254, 255]),
+            false => self.u8(),
         }
     }
 

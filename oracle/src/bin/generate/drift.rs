@@ -16,7 +16,7 @@ pub fn print(script: &mut Script, seed: u64, count: u64) {
         u8(255),
         u8(lowest_priority),
     ];
-    script.record(0x10, &fields);
+    script.record(script.draw(seed).open_code(), &fields);
     for turn in 0..count {
         let (hz, never_ends, triangle) = (0, 0, 2);
         script.record(0x15, &[u32(hz), u16(never_ends), u8(triangle)]);

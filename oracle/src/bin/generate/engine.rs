@@ -1,6 +1,6 @@
 //! Scripts of an engine, by name: those without frames and those with them.
 
-use crate::enginebad::{self, ENGINE, FRAMES};
+use crate::enginebad::{self, ENGINE, FRAMES, OPEN_PRESENT};
 use crate::plays::{self, Among};
 use crate::script::Script;
 use crate::{banks, drift};
@@ -13,7 +13,8 @@ pub const NAMES: [(&str, Print); 3] = [
         plays::print(script, seed, count, Among::Nothing)
     }),
     ("enginebad", |script, seed, count| {
-        enginebad::print(script, seed, count as u32, &ENGINE, &ENGINE)
+        let codes = engine_codes(script);
+        enginebad::print(script, seed, count as u32, &codes, &codes)
     }),
 ];
 
@@ -26,10 +27,16 @@ pub const FRAME_NAMES: [(&str, Print); 4] = [
         plays::print(script, seed, count, Among::Fades)
     }),
     ("framebad", |script, seed, count| {
-        let all = [&ENGINE[..], &FRAMES].concat();
+        let all = [&engine_codes(script)[..], &FRAMES].concat();
         enginebad::print(script, seed, count as u32, &FRAMES, &all)
     }),
 ];
+
+fn engine_codes(script: &Script) -> Vec<u8> {
+    let mut codes = ENGINE.to_vec();
+    codes.extend(script.present.then_some(OPEN_PRESENT));
+    codes
+}
 
 /// Nothing where there is no such name.
 pub fn print(script: &mut Script, name: &str, seed: u64, count: u64) -> Option<()> {
@@ -53,5 +60,13 @@ pub fn recorded(script: &mut Script, frames: bool) {
     if frames {
         plays::print(script, 3, 500, Among::Fades);
     }
+    script.ends_with_newline = true;
+}
+
+/// For the recorded list: boxes of both documents.
+pub fn recorded_present(script: &mut Script) {
+    banks::print(script, 1, 3);
+    plays::print(script, 4, 300, Among::Frames);
+    plays::print(script, 6, 300, Among::Fades);
     script.ends_with_newline = true;
 }

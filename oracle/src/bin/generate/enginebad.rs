@@ -11,6 +11,8 @@ pub const FRAMES: [u8; 16] = [
     0x20, 0x21, 0x22, 0x23, 0x24, 0x25, 0x26, 0x27, 0x28, 0x29, 0x2A, 0x2B, 0x2C, 0x66, 0x67, 0x68,
 ];
 
+pub const OPEN_PRESENT: u8 = 0x70;
+
 /// Codes of no record, near those of records or far from them.
 const UNKNOWN: [u8; 12] = [
     0x00, 0x01, 0x02, 0x0F, 0x1E, 0x1F, 0x2D, 0x2F, 0x31, 0x3F, 0x49, 0xFF,
@@ -25,7 +27,7 @@ const WAYS: [Spoil; 6] = [short, long, lower_case, other_byte, bad_field, good];
 /// A run of good records of the codes in `all`, then a bad one of a code in `spoilt`, then more good ones. The seed chooses
 /// code and way in turn, so that as many seeds as there are of both together have each once.
 pub fn print(script: &mut Script, seed: u64, count: u32, spoilt: &[u8], all: &[u8]) {
-    let mut draw = Draw::new(seed);
+    let mut draw = script.draw(seed);
     let draw = &mut draw;
     let way = seed as usize % WAYS.len();
     let code = spoilt[seed as usize / WAYS.len() % spoilt.len()];
@@ -33,16 +35,16 @@ pub fn print(script: &mut Script, seed: u64, count: u32, spoilt: &[u8], all: &[u
     if before_open {
         unopened(script, draw, count);
     } else {
-        script.add(&open(2, 8_000, 1_000, 0, 0));
+        script.add(&open(draw.open_code(), 2, 8_000, 1_000, 0, 0));
         good_ones(script, draw, count, all);
     }
     let bad = match code {
-        // These two may come before an engine is open.
-        0x10 | 0x12 if before_open => unknown(draw),
+        // These may come before an engine is open.
+        0x10 | 0x12 | OPEN_PRESENT if before_open => unknown(draw),
         _ => WAYS[way](draw, code),
     };
     script.add(&bad);
-    script.add(&open(1, 8_000, 1_000, 0, 0));
+    script.add(&open(draw.open_code(), 1, 8_000, 1_000, 0, 0));
     script.record(0x30, &[]);
     good_ones(script, draw, count, all);
     script.ends_with_newline = draw.one_in(2);
@@ -51,10 +53,11 @@ pub fn print(script: &mut Script, seed: u64, count: u32, spoilt: &[u8], all: &[u
 /// Records that may come before an engine is open, with some that are refused one.
 fn unopened(script: &mut Script, draw: &mut Draw, count: u32) {
     for _ in 0..draw.below(count + 1) {
+        let code = draw.open_code();
         let line = match draw.below(4) {
-            0 => open(17 + draw.below(200) as u8, 8_000, 1_000, 0, 0),
-            1 => open(2, 65_538, 1_000, 1, 1),
-            2 => open(2, 8_000, draw.below(2) as u16, 2, 0),
+            0 => open(code, 17 + draw.below(200) as u8, 8_000, 1_000, 0, 0),
+            1 => open(code, 2, 65_538, 1_000, 1, 1),
+            2 => open(code, 2, 8_000, draw.below(2) as u16, 2, 0),
             _ => good(draw, 0x12),
         };
         script.add(&line);
@@ -68,10 +71,10 @@ fn good_ones(script: &mut Script, draw: &mut Draw, count: u32, all: &[u8]) {
     }
 }
 
-fn open(voices: u8, rate: u32, period: u16, mode: u8, policy: u8) -> Line {
+fn open(code: u8, voices: u8, rate: u32, period: u16, mode: u8, policy: u8) -> Line {
     let (rate, period) = (u32(rate), u16(period));
     record(
-        0x10,
+        code,
         &[u8(voices), rate, period, u8(mode), u8(255), u8(policy)],
     )
 }
@@ -83,9 +86,10 @@ fn good(draw: &mut Draw, code: u8) -> Line {
     let [attack, decay, sustain, release] = envelope;
     let (id, byte) = (u16(draw.u16()), u8(draw.u8()));
     let fields = match code {
-        0x10 => {
+        0x10 | OPEN_PRESENT => {
             let (mode, policy) = (draw.below(3) as u8, draw.below(2) as u8);
-            return open(draw.below(18) as u8, draw.rate(), draw.u16(), mode, policy);
+            let (voices, rate) = (draw.below(18) as u8, draw.rate());
+            return open(code, voices, rate, draw.u16(), mode, policy);
         }
         0x11 => vec![u32(draw.rate()), u16(draw.below(4) as u16)],
         0x12 => {
@@ -149,7 +153,7 @@ fn replaced(draw: &mut Draw, code: u8, byte: u8) -> Line {
 fn bad_field(draw: &mut Draw, code: u8) -> Line {
     let (hz, ms) = (u32(draw.u32()), u16(draw.u16()));
     match code {
-        0x10 => bad_open(draw),
+        0x10 | OPEN_PRESENT => bad_open(draw, code),
         0x12 => {
             let more = 1 + draw.below(3);
             lend(&vec![0x12; (MOST_BYTES + more) as usize])
@@ -164,14 +168,14 @@ fn bad_field(draw: &mut Draw, code: u8) -> Line {
     }
 }
 
-fn bad_open(draw: &mut Draw) -> Line {
+fn bad_open(draw: &mut Draw, code: u8) -> Line {
     let (mode, policy) = match draw.below(3) {
         0 => (beyond(draw, 3), 0),
         1 => (1, beyond(draw, 2)),
         _ => (beyond(draw, 3), beyond(draw, 2)),
     };
     let (voices, rate) = (draw.pick(&[2, 17]), draw.pick(&[8_000, 65_538]));
-    open(voices, rate, draw.pick(&[1_000, 1]), mode, policy)
+    open(code, voices, rate, draw.pick(&[1_000, 1]), mode, policy)
 }
 
 /// A byte from the first that is too great on.

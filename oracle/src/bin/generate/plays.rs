@@ -40,10 +40,15 @@ struct Plays<'a> {
 
 /// About `count` records, after document 01's examples.
 pub fn print(script: &mut Script, seed: u64, count: u64, among: Among) {
-    script.after_each = (among == Among::Fades).then_some(0x79);
-    examples(script);
+    script.after_each = match (among == Among::Fades, script.present) {
+        (false, false) => &[],
+        (true, false) => &[0x79],
+        (false, true) => &[0x30],
+        (true, true) => &[0x79, 0x30],
+    };
+    let mut draw = script.draw(seed);
+    examples(script, &mut draw);
     let end = script.lines + count;
-    let mut draw = Draw::new(seed);
     let bank = Bank::draw(&mut draw, 4, 0);
     let mut plays = Plays {
         script,
@@ -59,12 +64,12 @@ pub fn print(script: &mut Script, seed: u64, count: u64, among: Among) {
         plays.step();
     }
     plays.script.record(0x30, &[]);
-    plays.script.after_each = None;
+    plays.script.after_each = &[];
     plays.script.ends_with_newline = seed.is_multiple_of(2);
 }
 
 /// Rates 65,537 and 65,538, 16 voices and 17; then two silent voices with requests 3, 5, 5, 7.
-fn examples(script: &mut Script) {
+fn examples(script: &mut Script, draw: &mut Draw) {
     for (voices, rate) in [
         (2, 65_537),
         (2, 65_538),
@@ -73,7 +78,7 @@ fn examples(script: &mut Script) {
         (2, 8_000),
     ] {
         let fields = [u8(voices), u32(rate), u16(1_000), u8(0), u8(255), u8(0)];
-        script.record(0x10, &fields);
+        script.record(draw.open_code(), &fields);
     }
     // One entry: id 7, FM, gain 200, 440 Hz, ratio 150, no payload.
     let mut bytes = vec![0; bank::HEADER];
@@ -115,6 +120,10 @@ impl<'a> Plays<'a> {
     ];
 
     fn step(&mut self) {
+        // Where there are boxes of both documents they change a few times in a run.
+        if self.draw.present && self.draw.one_in(40) {
+            self.open_next();
+        }
         if self.among != Among::Nothing && self.draw.one_in(2) {
             self.frame();
         } else if self.among == Among::Fades && self.draw.one_in(4) {
@@ -147,7 +156,7 @@ impl<'a> Plays<'a> {
         self.priorities = draw.pick(&[Few, Few, Any, Spread, Rising]);
         self.requests = 0;
         let rates = [draw.pick(&RATES), draw.pick(&RATES), draw.below(65_538)];
-        let (period, gain) = (draw.u16().max(2), draw.u8());
+        let (period, gain) = (draw.u16().max(2), draw.gain());
         let fields = [
             u8(self.voices),
             u32(draw.pick(&rates)),
@@ -156,7 +165,7 @@ impl<'a> Plays<'a> {
             u8(draw.pick(&[255, 255, 255, 128, gain])),
             u8(draw.one_in(3) as u8),
         ];
-        self.script.record(0x10, &fields);
+        self.script.record(self.draw.open_code(), &fields);
         if !self.draw.one_in(8) {
             self.new_bank();
         }
@@ -189,7 +198,7 @@ impl<'a> Plays<'a> {
             u8(draw.u8()),
             u8(draw.below(2) as u8),
         ];
-        self.script.record(0x10, &fields);
+        self.script.record(self.draw.open_code(), &fields);
     }
 
     /// Lends a bank and sets it.
@@ -265,7 +274,7 @@ impl<'a> Plays<'a> {
 
     fn envelope(&mut self) -> [Field; 4] {
         let (attack, decay, release) = (self.ms(), self.ms(), self.ms());
-        [u16(attack), u16(decay), u8(self.draw.u8()), u16(release)]
+        [u16(attack), u16(decay), u8(self.draw.gain()), u16(release)]
     }
 
     /// Mostly one that is there.
@@ -350,11 +359,11 @@ impl<'a> Plays<'a> {
 
     fn pan(&mut self) {
         let voice = self.place();
-        self.script.record(0x17, &[u8(voice), u8(self.draw.u8())]);
+        self.script.record(0x17, &[u8(voice), u8(self.draw.pan())]);
     }
 
     fn master_gain(&mut self) {
-        let any = self.draw.u8();
+        let any = self.draw.gain();
         let gain = self.draw.pick(&[255, 255, any]);
         self.script.record(0x18, &[u8(gain)]);
     }

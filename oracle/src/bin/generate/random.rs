@@ -10,8 +10,8 @@ type Drawn = fn(&mut Draw) -> Line;
 
 pub const MOST_SAMPLES: u32 = 4_089;
 
-/// Every record that is read today.
-pub const RECORDS: [(u8, Drawn); 26] = [
+/// Every record that is read today; those of the present rules last.
+pub const RECORDS: [(u8, Drawn); 27] = [
     (0x40, |d| record(0x40, &[i8(d.i8()), u8(d.u8())])),
     (0x41, |d| {
         record(0x41, &[i8(d.i8()), i8(d.i8()), u8(d.u8())])
@@ -42,10 +42,17 @@ pub const RECORDS: [(u8, Drawn); 26] = [
     (0x81, signals::any_reader),
     (0x84, lengths::any_length),
     (0x85, lengths::any_carrying),
+    (0x82, |d| record(0x82, &[i8(d.i8()), u8(d.gain())])),
 ];
 
+const BEFORE_PRESENT: usize = 26;
+
 pub fn any(draw: &mut Draw) -> Line {
-    draw.pick(&RECORDS).1(draw)
+    let drawn = match draw.present {
+        true => &RECORDS[..],
+        false => &RECORDS[..BEFORE_PRESENT],
+    };
+    draw.pick(drawn).1(draw)
 }
 
 fn increment(draw: &mut Draw) -> Line {

@@ -11,8 +11,10 @@ use crate::sets;
 use crate::signals;
 use crate::sources;
 
-/// With an engine's records, with or without frames, where they are asked for.
+/// With an engine's records, with or without frames, where they are asked for. What the present rules add comes after the rest, which
+/// is the same without them.
 pub fn print(script: &mut Script, frames: Option<bool>) {
+    let present = std::mem::take(&mut script.present);
     for code in [0x45, 0x43, 0x56, 0x59, 0x55, 0x51] {
         sets::bytes(script, code);
     }
@@ -36,6 +38,11 @@ pub fn print(script: &mut Script, frames: Option<bool>) {
     if let Some(frames) = frames {
         engine::recorded(script, frames);
     }
+    if present {
+        script.present = true;
+        edge_gains(script, 0x82, &[0, 1, 127, 128, 253, 254, 255]);
+        engine::recorded_present(script);
+    }
     // A lower-case digit: the list can hold one bad line, as nothing after it is read.
     script.add(b"407FfF");
 }
@@ -48,9 +55,13 @@ fn gains(script: &mut Script) {
             script.record(0x40, &[i8(sample), u8(part * 16 + within)]);
         }
     }
+    edge_gains(script, 0x40, &[0, 1, 127, 128, 254, 255]);
+}
+
+fn edge_gains(script: &mut Script, code: u8, gains: &[u8]) {
     for sample in SAMPLES {
-        for gain in [0, 1, 127, 128, 254, 255] {
-            script.record(0x40, &[i8(sample), u8(gain)]);
+        for gain in gains {
+            script.record(code, &[i8(sample), u8(*gain)]);
         }
     }
 }

@@ -1,5 +1,6 @@
 //! Records as lines, and a script of them on standard output.
 
+use crate::draw::Draw;
 use std::io::{BufWriter, Stdout, Write, stdout};
 
 /// A line without its newline.
@@ -92,8 +93,10 @@ pub struct Script {
     pub ends_with_newline: bool,
     /// How many lines it has so far.
     pub lines: u64,
-    /// A record without fields that comes after every other one.
-    pub after_each: Option<u8>,
+    /// Records without fields that come after every other one.
+    pub after_each: &'static [u8],
+    /// Whether boxes of both documents are opened.
+    pub present: bool,
 }
 
 impl Script {
@@ -102,14 +105,25 @@ impl Script {
             out: BufWriter::with_capacity(1 << 16, stdout()),
             ends_with_newline: true,
             lines: 0,
-            after_each: None,
+            after_each: &[],
+            present: false,
         }
+    }
+
+    /// The draws of a run in this script.
+    pub fn draw(&self, seed: u64) -> Draw {
+        let mut draw = Draw::new(seed);
+        draw.present = self.present;
+        draw
     }
 
     pub fn add(&mut self, line: &[u8]) {
         self.line(line);
-        if let Some(code) = self.after_each {
-            self.line(&record(code, &[]));
+        for code in self.after_each {
+            let after = record(*code, &[]);
+            if after != line {
+                self.line(&after);
+            }
         }
     }
 

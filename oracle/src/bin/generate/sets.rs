@@ -14,7 +14,7 @@ pub const FLOATS: u32 = 2_000_000;
 type Print = fn(&mut Script, u32);
 
 pub const SETS: [(&str, Print); 21] = [
-    ("gain", |script, _| gain(script)),
+    ("gain", |script, _| gain(script, 0x40)),
     ("sine", |script, _| bytes(script, 0x45)),
     ("pan", |script, _| bytes(script, 0x43)),
     ("limiter", |script, _| limiter(script)),
@@ -40,9 +40,13 @@ pub const SETS: [(&str, Print); 21] = [
     ("length", |script, _| lengths::lengths(script)),
 ];
 
+/// Those of the present rules.
+pub const PRESENT_SETS: [(&str, Print); 1] = [("present-gain", |script, _| gain(script, 0x82))];
+
 /// Nothing where there is no set of that name.
 pub fn print(script: &mut Script, name: &str, floats: u32) -> Option<()> {
-    let set = SETS.iter().find(|set| set.0 == name)?;
+    let mut sets = SETS.iter().chain(&PRESENT_SETS);
+    let set = sets.find(|set| set.0 == name)?;
     set.1(script, floats);
     Some(())
 }
@@ -54,10 +58,10 @@ pub fn bytes(script: &mut Script, code: u8) {
     }
 }
 
-fn gain(script: &mut Script) {
+fn gain(script: &mut Script, code: u8) {
     for sample in -128..=127 {
         for gain in 0..=255 {
-            script.record(0x40, &[i8(sample), u8(gain)]);
+            script.record(code, &[i8(sample), u8(gain)]);
         }
     }
 }

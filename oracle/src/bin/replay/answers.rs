@@ -1,8 +1,6 @@
 //! What is printed.
 
 use crate::fields::Answered;
-use oracle::Peek;
-use oracle::voice::Voice;
 
 /// The answers' text, as far as it is not yet handed on.
 #[derive(Default)]
@@ -24,16 +22,6 @@ impl Answers {
     /// 00 and the sample, or 0100 where none is given.
     pub fn given(&mut self, sample: Option<i8>) {
         self.hex(sample.map_or(0x100, |sample| sample as u8 as i64), 4);
-    }
-
-    /// A frame of a voice, on one side or on two.
-    pub fn frame(&mut self, voice: &mut Voice, stereo: bool) {
-        if !stereo {
-            return self.given(voice.next_sample());
-        }
-        let pair = voice.next_stereo_sample();
-        self.given(pair.map(|(left, _)| left));
-        self.hex(pair.map_or(0, |(_, right)| right as u8 as i64), 2);
     }
 
     /// Fields of a state, 16 digits each.
@@ -66,10 +54,4 @@ impl Answers {
         self.hex(voice.err().unwrap_or(0), 2);
         self.line(voice.map_or(0xFF, |voice| voice as i64), 2)
     }
-}
-
-pub fn state_of(value: &impl Peek) -> Vec<i64> {
-    let mut state = Vec::new();
-    value.peek(&mut state);
-    state
 }

@@ -1,31 +1,19 @@
 //! Records of an engine: all that needs one open, frames apart.
 
-use crate::answers::{Answers, state_of};
+use super::choices::Choices;
+use super::frames;
+use super::original::bank::SoundBank;
+use super::original::config::AudioConfig;
+use super::original::engine::AudioEngine;
+use super::original::state_of;
+use super::rules::{self, Engine};
+use crate::calls::{Call, MOST_LENT, Mixer};
 use crate::fields::{Answered, Bad, Fields};
-use crate::frames;
-use crate::rules::{self, Engine, Ruled, VOICE_BUSY};
-use oracle::bank::SoundBank;
-use oracle::config::AudioConfig;
-use oracle::engine::AudioEngine;
-
-/// The most bytes that are lent.
-pub const MOST_LENT: usize = 4_096;
+use crate::numbers::{self, Ruled, VOICE_BUSY};
 
 /// What the engine's bank lies over between two calls. It has only its length from there: each call that reads the bank
 /// reads the bytes lent to it.
 static HELD: [u8; MOST_LENT] = [0; MOST_LENT];
-
-/// A record without its code, the bytes lent to it, and where its answer goes.
-pub struct Call<'a> {
-    pub fields: Fields<'a>,
-    pub lent: &'a [u8],
-    pub answers: &'a mut Answers,
-}
-
-/// An engine of any number of voices.
-pub trait Mixer {
-    fn answer(&mut self, code: u8, call: &mut Call) -> Answered;
-}
 
 type Answer<const N: usize> = fn(&mut Engine<N>, &mut Call) -> Answered;
 
@@ -88,7 +76,7 @@ pub fn open(fields: &mut Fields) -> Result<Ruled<Box<dyn Mixer>>, Bad> {
     let (voices, rate, period) = (fields.u8(), fields.u32(), fields.u16());
     let config = AudioConfig::new(rate, period, fields.duty_mode()?).master_gain_q8(fields.u8());
     let policy = fields.policy()?;
-    if let Err(number) = rules::opening(voices, rate, period) {
+    if let Err(number) = numbers::opening(voices, rate, period) {
         return Ok(Err(number));
     }
     macro_rules! of {
@@ -108,7 +96,7 @@ pub fn open(fields: &mut Fields) -> Result<Ruled<Box<dyn Mixer>>, Bad> {
 
 fn set_bank<const N: usize>(engine: &mut Engine<N>, call: &mut Call) -> Answered {
     let (rate, count) = (call.fields.u32(), call.fields.u16());
-    let ruled = rules::setting(rate, count, call.lent.len());
+    let ruled = numbers::setting(rate, count, call.lent.len());
     if ruled.is_ok() {
         engine.set_bank(SoundBank::over(&HELD[..call.lent.len()], rate, count));
     }

@@ -1,10 +1,5 @@
 //! A line's bytes, and the fields taken from them.
 
-use oracle::engine::VoiceStealingPolicy;
-use oracle::envelope::AdsrSpec;
-use oracle::output::DutyMode;
-use oracle::synth::{PolyBlepWaveform, Waveform};
-
 /// No good line has more digits.
 pub const LONGEST: usize = 8_194;
 
@@ -67,40 +62,12 @@ impl Fields<'_> {
         i32::from_be_bytes(self.take())
     }
 
-    pub fn envelope(&mut self) -> AdsrSpec {
-        AdsrSpec {
-            attack_ms: self.u16(),
-            decay_ms: self.u16(),
-            sustain_q8: self.u8(),
-            release_ms: self.u16(),
-        }
-    }
-
     pub fn flag(&mut self) -> Result<bool, Bad> {
         self.one_of(&[false, true])
     }
 
-    pub fn duty_mode(&mut self) -> Result<DutyMode, Bad> {
-        use DutyMode::{Linear, SigmaDelta, SigmaDelta2ndOrder};
-        self.one_of(&[Linear, SigmaDelta, SigmaDelta2ndOrder])
-    }
-
-    pub fn policy(&mut self) -> Result<VoiceStealingPolicy, Bad> {
-        use VoiceStealingPolicy::{FreeChannelOnly, LowestPriorityOldest};
-        self.one_of(&[LowestPriorityOldest, FreeChannelOnly])
-    }
-
-    pub fn waveform(&mut self) -> Result<Waveform, Bad> {
-        use Waveform::{Sine, Square, Triangle};
-        self.one_of(&[Square, Sine, Triangle])
-    }
-
-    pub fn polyblep_waveform(&mut self) -> Result<PolyBlepWaveform, Bad> {
-        use PolyBlepWaveform::{Sawtooth, Sine, Square, Triangle};
-        self.one_of(&[Sine, Sawtooth, Square, Triangle])
-    }
-
-    fn one_of<T: Copy>(&mut self, all: &[T]) -> Result<T, Bad> {
+    /// A choice by its number in the list.
+    pub fn one_of<T: Copy>(&mut self, all: &[T]) -> Result<T, Bad> {
         all.get(self.u8() as usize).copied().ok_or(Bad)
     }
 }

@@ -1,8 +1,8 @@
 //! Records 20 to 2C and 66 to 68: frames and buffers of them.
 
-use crate::engine::Call;
+use super::rules::Engine;
+use crate::calls::Call;
 use crate::fields::{Answered, Bad};
-use crate::rules::Engine;
 
 const MOST_CELLS: u16 = 2_048;
 

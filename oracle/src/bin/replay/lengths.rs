@@ -2,7 +2,7 @@
 
 use crate::answers::Answers;
 use crate::fields::{Answered, Fields};
-use crate::rules::{BAD_RATE, HIGHEST_RATE};
+use crate::numbers::{BAD_RATE, HIGHEST_RATE};
 
 fn answer(ms: u16, rate: u32, carried: u32, answers: &mut Answers) -> Answered {
     let thousandths = ms as i64 * rate as i64 + carried as i64;

@@ -1,37 +1,14 @@
-//! Document 01's refusals, and those that document 02 adds. The original decides wherever it has the refusal itself; the ones that
-//! the port adds (1, 2, 3, 7, 10, 11 and 12) are found here, in their place among the others.
+//! Refusals of an engine's calls. The original decides wherever it has the refusal itself; the ones that the port adds (7 and 10) are
+//! found here, in their place among the others.
 
-use oracle::bank::{EffectEntry, SoundBank};
-use oracle::engine::AudioEngine;
-use oracle::envelope::AdsrSpec;
-use oracle::error::AudioError;
-use oracle::tier::EffectKind;
-
-pub const VOICE_COUNT: i64 = 1;
-pub const BAD_RATE: i64 = 2;
-pub const BAD_PERIOD: i64 = 3;
-pub const TRUNCATED: i64 = 4;
-pub const VOICE_BUSY: i64 = 5;
-pub const NO_BANK: i64 = 6;
-pub const BANK_MISMATCH: i64 = 7;
-pub const NOT_FOUND: i64 = 8;
-pub const INVALID_KIND: i64 = 9;
-pub const NOT_CARRIED: i64 = 10;
-pub const BAD_SUM: i64 = 11;
-pub const LOW_RATE: i64 = 12;
-
-pub const MOST_VOICES: u8 = 16;
-pub const HIGHEST_RATE: u32 = 65_537;
-pub const LEAST_SIGNAL_RATE: u32 = 20;
-pub const LEAST_PERIOD: u16 = 2;
-pub const SUMS: std::ops::RangeInclusive<i32> = -2_048..=2_032;
-
-/// A bank's header and one entry, in bytes.
-const HEADER: usize = 10;
-const ENTRY: usize = 16;
-
-/// An answer, or the number of the refusal.
-pub type Ruled<T> = Result<T, i64>;
+use super::original::bank::{EffectEntry, SoundBank};
+use super::original::engine::AudioEngine;
+use super::original::envelope::AdsrSpec;
+use super::original::error::AudioError;
+use super::original::tier::EffectKind;
+use crate::numbers::{
+    BANK_MISMATCH, INVALID_KIND, NO_BANK, NOT_CARRIED, NOT_FOUND, Ruled, TRUNCATED, VOICE_BUSY,
+};
 
 /// An engine between two calls.
 pub type Engine<const N: usize> = AudioEngine<'static, N>;
@@ -44,29 +21,6 @@ fn number(error: AudioError) -> i64 {
         AudioError::EffectNotFound => NOT_FOUND,
         AudioError::InvalidEffectKind => INVALID_KIND,
         _ => unreachable!("an error of a call that is not carried over"),
-    }
-}
-
-pub fn opening(voices: u8, rate: u32, period: u16) -> Ruled<()> {
-    if voices > MOST_VOICES {
-        Err(VOICE_COUNT)
-    } else if rate > HIGHEST_RATE {
-        Err(BAD_RATE)
-    } else if period < LEAST_PERIOD {
-        Err(BAD_PERIOD)
-    } else {
-        Ok(())
-    }
-}
-
-/// The original refuses a truncated bank where it parses a header, which is not read here.
-pub fn setting(rate: u32, count: u16, length: usize) -> Ruled<()> {
-    if rate > HIGHEST_RATE {
-        Err(BAD_RATE)
-    } else if HEADER + ENTRY * count as usize > length {
-        Err(TRUNCATED)
-    } else {
-        Ok(())
     }
 }
 

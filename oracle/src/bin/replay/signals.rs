@@ -3,7 +3,7 @@
 
 use crate::answers::Answers;
 use crate::fields::{Answered, Bad, Fields};
-use crate::rules::{BAD_RATE, HIGHEST_RATE, LEAST_SIGNAL_RATE, LOW_RATE, Ruled};
+use crate::numbers::{BAD_RATE, HIGHEST_RATE, LEAST_SIGNAL_RATE, LOW_RATE, Ruled};
 use std::iter::repeat_n;
 
 /// On, off, on, off, on and the long off, in milliseconds.

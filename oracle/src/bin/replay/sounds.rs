@@ -1,9 +1,11 @@
 //! A source or a voice alone, with no engine: our own records 60, 61 and 6A.
 
-use crate::answers::{Answers, state_of};
+use crate::answers::Answers;
+use crate::document_01::choices::Choices;
 use crate::fields::{Answered, Bad, Fields};
-use crate::rules::{BAD_RATE, HIGHEST_RATE};
+use crate::numbers::{BAD_RATE, HIGHEST_RATE};
 use oracle::source::VoiceSource;
+use oracle::state_of;
 use oracle::synth::polyblep::voice_at;
 use oracle::synth::{PolyBlepWaveform, Waveform};
 use oracle::voice::{Voice, peek_source};
@@ -69,6 +71,16 @@ pub fn source_alone(fields: &mut Fields, answers: &mut Answers) -> Answered {
     answers.line(source.carrier_hz(rate).unwrap_or(0) as i64, 8)
 }
 
+/// A frame of a voice, on one side or on two.
+fn frame(answers: &mut Answers, voice: &mut Voice, stereo: bool) {
+    if !stereo {
+        return answers.given(voice.next_sample());
+    }
+    let pair = voice.next_stereo_sample();
+    answers.given(pair.map(|(left, _)| left));
+    answers.hex(pair.map_or(0, |(_, right)| right as u8 as i64), 2);
+}
+
 pub fn voice_alone(fields: &mut Fields, answers: &mut Answers) -> Answered {
     let start = Start::read(fields)?;
     let (rate, spec) = (fields.u32(), fields.envelope());
@@ -93,7 +105,7 @@ pub fn voice_alone(fields: &mut Fields, answers: &mut Answers) -> Answered {
     }
     for _ in 0..printed {
         voice.tick_envelope();
-        answers.frame(&mut voice, stereo);
+        frame(answers, &mut voice, stereo);
     }
     answers.fields(&state_of(&voice));
     answers.line(voice.is_audible() as i64, 2)

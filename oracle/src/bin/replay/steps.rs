@@ -1,17 +1,26 @@
-//! Single steps, with no engine: records 40 to 48 and our own 50 to 59.
+//! Single steps, with no engine: records 40 to 48, our own 50 to 59, and 82.
 
-use crate::answers::{Answers, state_of};
+use crate::answers::Answers;
+use crate::document_01::choices::Choices;
 use crate::fields::{Answered, Bad, Fields};
-use crate::rules::{BAD_PERIOD, BAD_RATE, BAD_SUM, HIGHEST_RATE, INVALID_KIND, LEAST_PERIOD, SUMS};
+use crate::numbers::{
+    BAD_PERIOD, BAD_RATE, BAD_SUM, HIGHEST_RATE, INVALID_KIND, LEAST_PERIOD, SUMS,
+};
 use oracle::config::crossfade_step_q8;
 use oracle::envelope::Adsr;
 use oracle::fixed;
 use oracle::output::{self, PwmMapper, SigmaDelta};
+use oracle::state_of;
 use oracle::tier::EffectKind;
 
 pub fn gain(fields: &mut Fields, answers: &mut Answers) -> Answered {
     let (sample, gain) = (fields.i8(), fields.u8());
     answers.line(fixed::apply_gain_q8(sample, gain) as i64, 2)
+}
+
+pub fn present_gain(fields: &mut Fields, answers: &mut Answers) -> Answered {
+    let (sample, gain) = (fields.i8(), fields.u8());
+    answers.line(present::fixed::apply_gain_q8(sample, gain) as i64, 2)
 }
 
 pub fn lerp(fields: &mut Fields, answers: &mut Answers) -> Answered {

@@ -13,24 +13,6 @@ use mir.ValLaws.{toZ-ofZ}
 use Rattle.block.specs.Cells.{Steady}
 use Rattle.laws.proofs.Signed.{abs≤, abs-fits, abs-quot, add≤, mag-shr, neg-fits}
 
--- a sample under a gain of up to 256
-pub record Scales (s : ℤ) (g : ℕ) : Type 0 where
-  pub wide : SFits w16 s
-  pub gain : SFits w16 (pos g)
-  pub prod : SFits w16 (s *ℤ pos g)
-  pub down : SFits w16 (shrZ (s *ℤ pos g) 256)
-  pub small : natAbs (shrZ (s *ℤ pos g) 256) ≤ 128
-
-product-fits : (s : ℤ) (g : ℕ) → SFits w8 s → g ≤ 256 → SFits w16 (s *ℤ pos g)
-product-fits (pos n) g f h = record { sfits = omega (arith, mul-le-mul {n₁ = n} {m₁ = g} {n₂ = 127} {m₂ = 256} (omega arith) h) }
-product-fits (negsuc n) g f h = neg-fits {n = suc n * g} {h = 32768} (mul-le-mul {n₁ = suc n} {m₁ = g} {n₂ = 128} {m₂ = 256} (omega arith) h) tt
-
-pub scales : (s : ℤ) (g : ℕ) → SFits w8 s → g ≤ 256 → Scales s g
-scales s g f h =
-    let p = product-fits s g f h in
-    let r : SFits w8 (shrZ (s *ℤ pos g) 256) = record { sfits = omega (arith, mag-shr (s *ℤ pos g) 256, p .sfits) } in
-    record { wide = sfits-widen tt f; gain = record { sfits = omega arith }; prod = p; down = sfits-widen tt r; small = abs≤ r }
-
 -- a sum over a count
 pub record Means (s : ℤ) (n : ℕ) : Type 0 where
   pub wide : SFits w32 s

@@ -4,12 +4,12 @@ use native.Mathlib.Nat.{zero-mul, mul-zero, suc-mul, add-zero}
 use native.Mathlib.Omega.{arith}
 use mathlib.Core.Path.{_≡_, refl, sym, ap, _∙_}
 use mathlib.Core.Bool.{Bool, true, false, cond}
-use mathlib.Core.List.{List, [], _∷_, map, map-map}
+use mathlib.Core.List.{List, [], _∷_, map}
 use borrow.Author.Tests.{eq-eqb, ne-eqb}
 use lib.Dec.{eqb}
 use lib.IntN.{ℤ}
 use lib.ListN.{length, getD, set, length-set}
-use Rattle.fixed.specs.Fixed.{gained}
+use Rattle.fixed.specs.Fixed.{gainedBy}
 use Rattle.fixed.specs.declared.Given.{Given}
 use Rattle.fixed.specs.declared.Given.the-variants as G
 use Rattle.laws.specs.Lists.{mapFirst}
@@ -25,13 +25,17 @@ use Rattle.voice.specs.declared.Voice.{Voice}
 use Rattle.voice.specs.declared.StereoGiven.{StereoGiven}
 use Rattle.voice.specs.declared.source.VoiceSource.the-variants as I
 use Rattle.envelope.specs.Adsrs as A
-use Rattle.frame.specs.Fades.{voiceAt, fadeEnded, fadeAt, nextT, advanced}
-use Rattle.frame.specs.Frames.{enveloped, sampled, leveled, averaged, crossed, sampleOf, monoMix, monoFrame, leftOf, rightOf, sideTotal, stereoFrame}
+use Rattle.frame.specs.Fades.{voiceAt, fadeEnded, fadeAt, nextT, advanced, marksEnded, marksAdvanced}
+use Rattle.frame.specs.Places.{mapAt}
+use Rattle.marks.specs.declared.Marks.{Marks}
+use Rattle.frame.proofs.Places.{mapAt-map}
+use Rattle.frame.specs.Frames.{enveloped, sampled, leveled, averaged, crossed, monoMix, monoFrameBy, leftOf, rightOf, sideTotal, pairsOf, stereoFrameBy}
 use Rattle.frame.specs.Runs.{monoStep, stereoStep}
+use Rattle.marks.specs.Marks.{ruleAt}
 use Rattle.frame.proofs.Voices.{getD-mapFirst}
 use Rattle.voice.specs.Blocks.{voiceStep, voiceAnswer, voiceRun}
 use Rattle.block.specs.Parts.{Slow, pace}
-use Rattle.block.proofs.Sums.{sumOver}
+use Rattle.block.proofs.Sums.{sumAt}
 
 -- ---- steps that give one thing each
 module _ {State A : Type 0} (step : State → State) (f : State → A) where
@@ -121,7 +125,7 @@ abbrev pub runAll : ℕ → ℕ → List Voice → List Voice
 runAll k n vs = mapFirst (after voiceStep k) n vs
 
 stereo-one : (m : Mixer) → Slow m 1 → stereoStep m ≡ moved m (runAll 1 (m .n) (m .voices)) (m .«crossfade_t_q8» + pace m)
-unfolding after voiceStep fadeAt stereoFrame sampled enveloped
+unfolding after voiceStep fadeAt stereoFrameBy sampled enveloped
 stereo-one m h = rw (advanced-lasting m h, mapFirst-fuse (λ v. steppedVoice v .voice) tickedVoice (m .n) (m .voices))
 
 pub after-stereo : (k : ℕ) (m : Mixer) → Slow m k → after stereoStep k m ≡ moved m (runAll k (m .n) (m .voices)) (m .«crossfade_t_q8» + k * pace m)
@@ -173,7 +177,7 @@ pair-one (suc (suc n)) (v ∷ w ∷ vs) h k = refl
 
 mono-one : (m : Mixer) → Pair (m .n) (m .voices) (m .«crossfade_active») → Slow m 1
     → monoStep m ≡ moved m (runPair 1 (m .n) (m .voices)) (m .«crossfade_t_q8» + pace m)
-unfolding fadeAt monoFrame sampled enveloped
+unfolding fadeAt monoFrameBy sampled enveloped
 mono-one m p h = rw (advanced-lasting m h, p .0, pair-one (m .n) (m .voices) (p .1) (p .2))
 
 pub after-pair : (k : ℕ) (m : Mixer) → Pair (m .n) (m .voices) (m .«crossfade_active») → Slow m k
@@ -186,13 +190,26 @@ after-pair k m p h =
 
 -- ---- what a frame gives
 
--- what a voice answers in frame k
-abbrev pub answerAt : ℕ → Voice → Given
-answerAt k v = sampleOf (tickedVoice (after voiceStep k v))
+-- what a voice answers in frame k, by a rule of gain 255
+abbrev pub answerAt : Bool → ℕ → Voice → Given
+answerAt w k v = S.sampleBy w (tickedVoice (after voiceStep k v))
 
-pub run-at : (n k : ℕ) (v : Voice) → k < n → getD (voiceRun n v) k G.None ≡ answerAt k v
+pub run-at : (w : Bool) (n k : ℕ) (v : Voice) → k < n → getD (voiceRun w n v) k G.None ≡ answerAt w k v
 unfolding voiceAnswer
-run-at n k v h = given-at voiceStep (λ v. sampleOf (tickedVoice v)) n k v G.None h
+run-at w n k v h = given-at voiceStep (λ v. S.sampleBy w (tickedVoice v)) n k v G.None h
+
+-- the marks stay as they are where the frame ends no fade
+marks-quiet : (r : Marks) (m : Mixer) → m .«crossfade_active» ≡ false → marksAdvanced m r ≡ r
+unfolding marksAdvanced
+marks-quiet r m e = rw e
+
+pub marks-lasting : (r : Marks) (m : Mixer) → Slow m 1 → marksAdvanced m r ≡ r
+unfolding marksAdvanced
+marks-lasting r m h = by-active (m .«crossfade_active») refl
+  where
+    by-active : (a : Bool) → m .«crossfade_active» ≡ a → cond a (cond (eqb (nextT m) 255) (marksEnded r) r) r ≡ r
+    by-active true a = let l = h a (omega arith) in let e : eqb (nextT m) 255 ≡ false = ne-eqb (nextT m) 255 (λ q. omega arith) in rw e
+    by-active false a = refl
 
 -- outside a fade
 
@@ -201,11 +218,11 @@ unfolding advanced
 advanced-quiet m e = rw e
 
 stereo-quiet : (m : Mixer) → m .«crossfade_active» ≡ false → stereoStep m .«crossfade_active» ≡ false
-unfolding stereoFrame sampled enveloped
+unfolding stereoFrameBy sampled enveloped
 stereo-quiet m e = rw (advanced-quiet m e) e
 
 mono-stereo : (m : Mixer) → m .«crossfade_active» ≡ false → monoStep m ≡ stereoStep m
-unfolding monoFrame stereoFrame enveloped
+unfolding monoFrameBy stereoFrameBy enveloped
 mono-stereo m e = rw (advanced-quiet m e, e)
 
 after-quiet : (k : ℕ) (m : Mixer) → m .«crossfade_active» ≡ false → after monoStep k m ≡ after stereoStep k m
@@ -219,29 +236,40 @@ unfolding fadeAt
 after-plain k m e =
     after-quiet k m e ∙ after-stereo k m (λ a z. never (sym e ∙ a)) ∙ rw (e, mul-zero, add-zero)
 
-mono-plain : (m : Mixer) → m .«crossfade_active» ≡ false → monoFrame m .pcm ≡ leveled m (averaged (map (λ v. sampleOf (tickedVoice v)) (voicesOf m)))
-unfolding monoFrame monoMix enveloped
-mono-plain m e = rw (advanced-quiet m e, e, take-mapFirst tickedVoice (m .n) (m .voices), map-map sampleOf tickedVoice (voicesOf m))
+mono-plain : (r : Marks) (m : Mixer) → m .«crossfade_active» ≡ false
+    → monoFrameBy r m .pcm ≡ leveled r m (averaged (mapAt (λ i v. answerAt (ruleAt r i) 0 v) 0 (voicesOf m)))
+unfolding monoFrameBy monoMix enveloped after
+mono-plain r m e =
+    rw (
+      marks-quiet r m e,
+      advanced-quiet m e,
+      e,
+      take-mapFirst tickedVoice (m .n) (m .voices),
+      mapAt-map (λ i v. S.sampleBy (ruleAt r i) v) tickedVoice 0 (voicesOf m),
+    )
 
 -- the sample of frame k
-pub mono-plain-at : (k : ℕ) (m : Mixer) → m .«crossfade_active» ≡ false
-    → monoFrame (after monoStep k m) .pcm ≡ leveled m (averaged (map (answerAt k) (voicesOf m)))
-mono-plain-at k m e =
+pub mono-plain-at : (r : Marks) (k : ℕ) (m : Mixer) → m .«crossfade_active» ≡ false
+    → monoFrameBy r (after monoStep k m) .pcm ≡ leveled r m (averaged (mapAt (λ i v. answerAt (ruleAt r i) k v) 0 (voicesOf m)))
+unfolding after
+mono-plain-at r k m e =
     rw (
       after-plain k m e,
-      mono-plain (withVoices m (runAll k (m .n) (m .voices))) e,
+      mono-plain r (withVoices m (runAll k (m .n) (m .voices))) e,
       take-mapFirst (after voiceStep k) (m .n) (m .voices),
-      map-map (λ v. sampleOf (tickedVoice v)) (after voiceStep k) (voicesOf m),
+      mapAt-map (λ i v. answerAt (ruleAt r i) 0 v) (after voiceStep k) 0 (voicesOf m),
     )
 
 -- within a fade
-mono-crossed : (m : Mixer) → Pair (m .n) (m .voices) (m .«crossfade_active») → Slow m 1
-    → monoFrame m .pcm ≡ leveled m (crossed (m .«crossfade_t_q8» + m .«crossfade_step_q8») (sampleOf (tickedVoice (voiceAt m 0))) (sampleOf (tickedVoice (voiceAt m 1))))
-unfolding fadeAt monoFrame monoMix enveloped
-mono-crossed m p h =
+mono-crossed : (r : Marks) (m : Mixer) → Pair (m .n) (m .voices) (m .«crossfade_active») → Slow m 1
+    → monoFrameBy r m .pcm
+    ≡ leveled r m (crossed (m .«crossfade_t_q8» + m .«crossfade_step_q8») (S.sampleBy (ruleAt r 0) (tickedVoice (voiceAt m 0))) (S.sampleBy (ruleAt r 1) (tickedVoice (voiceAt m 1))))
+unfolding fadeAt monoFrameBy monoMix enveloped
+mono-crossed r m p h =
     let two = p .1 in
     let there = p .2 in
     rw (
+      marks-lasting r m h,
       advanced-lasting m h,
       p .0,
       getD-mapFirst tickedVoice (m .n) 0 (m .voices) (silentVoice 0) (omega arith) (omega arith),
@@ -269,11 +297,11 @@ second-at k n vs h =
     getD-set-same (set (mapFirst (after tickedVoice k) n vs) 0 x) 1 (after voiceStep k (getD vs 1 (silentVoice 0))) (silentVoice 0) (omega arith)
 
 -- the sample of frame k of a fade
-pub mono-fade-at : (k : ℕ) (m : Mixer) → Pair (m .n) (m .voices) (m .«crossfade_active») → Slow m (suc k)
-    → monoFrame (after monoStep k m) .pcm
-    ≡ leveled m (crossed (m .«crossfade_t_q8» + suc k * m .«crossfade_step_q8») (answerAt k (voiceAt m 0)) (answerAt k (voiceAt m 1)))
+pub mono-fade-at : (r : Marks) (k : ℕ) (m : Mixer) → Pair (m .n) (m .voices) (m .«crossfade_active») → Slow m (suc k)
+    → monoFrameBy r (after monoStep k m) .pcm
+    ≡ leveled r m (crossed (m .«crossfade_t_q8» + suc k * m .«crossfade_step_q8») (answerAt (ruleAt r 0) k (voiceAt m 0)) (answerAt (ruleAt r 1) k (voiceAt m 1)))
 unfolding fadeAt
-mono-fade-at k m p h =
+mono-fade-at r k m p h =
     let two = p .1 in
     let there = p .2 in
     let step = m .«crossfade_step_q8» in
@@ -284,7 +312,7 @@ mono-fade-at k m p h =
     let g : t + k * pace m + step ≡ t + suc k * step = rw (p .0) (omega arith) in
     rw (
       after-pair k m p (lasts-fewer k m h),
-      mono-crossed s q (goes-on k m (s .voices) h),
+      mono-crossed r s q (goes-on k m (s .voices) h),
       first-at k (m .n) (m .voices) there,
       second-at k (m .n) (m .voices) there,
       g,
@@ -310,51 +338,58 @@ pan-after zero v = refl
 pan-after (suc k) v = pan-after k (voiceStep v) ∙ pan-stepped (tickedVoice v) ∙ pan-ticked v
 
 -- what a voice adds to a side in frame k
-abbrev pub sideAt : (StereoGiven → ℤ) → ℕ → Voice → ℤ
-sideAt side k v = side (S.pannedBy gained (v .«pan_q8») (answerAt k v))
+abbrev pub sideAt : (StereoGiven → ℤ) → Marks → ℕ → ℕ → Voice → ℤ
+sideAt side r k i v = side (S.pannedBy (gainedBy (ruleAt r i)) (v .«pan_q8») (answerAt (ruleAt r i) k v))
 
-side-sum : (side : StereoGiven → ℤ) (k : ℕ) (vs : List Voice) → sideTotal side (map tickedVoice (map (after voiceStep k) vs)) ≡ sumOver (sideAt side k) vs
-unfolding sideTotal sumOver S.stereoStep
-side-sum side k [] = refl
-side-sum side k (v ∷ vs) = rw (side-sum side k vs, pan-ticked (after voiceStep k v), pan-after k v)
+side-sum : (side : StereoGiven → ℤ) (r : Marks) (k i : ℕ) (vs : List Voice)
+    → sideTotal side (mapAt (λ i v. S.pairBy (ruleAt r i) v) i (map tickedVoice (map (after voiceStep k) vs))) ≡ sumAt (sideAt side r k) i vs
+unfolding sideTotal sumAt mapAt S.pairBy
+side-sum side r k i [] = refl
+side-sum side r k i (v ∷ vs) = rw (side-sum side r k (suc i) vs, pan-ticked (after voiceStep k v), pan-after k v)
 
-side-enveloped : (side : StereoGiven → ℤ) (k : ℕ) (m : Mixer) (t : ℕ)
-    → sideTotal side (voicesOf (enveloped (moved m (runAll k (m .n) (m .voices)) t))) ≡ sumOver (sideAt side k) (voicesOf m)
+side-enveloped : (side : StereoGiven → ℤ) (r : Marks) (k : ℕ) (m : Mixer) (t : ℕ)
+    → sideTotal side (pairsOf r (voicesOf (enveloped (moved m (runAll k (m .n) (m .voices)) t)))) ≡ sumAt (sideAt side r k) 0 (voicesOf m)
 unfolding enveloped fadeAt
-side-enveloped side k m t =
+side-enveloped side r k m t =
     rw (
       take-mapFirst tickedVoice (m .n) (runAll k (m .n) (m .voices)),
       take-mapFirst (after voiceStep k) (m .n) (m .voices),
-      side-sum side k (voicesOf m),
+      side-sum side r k 0 (voicesOf m),
     )
 
 advanced-moved : (m : Mixer) (vs : List Voice) (t : ℕ) → Slow (moved m vs t) 1 → advanced (moved m vs t) ≡ moved m vs (t + pace m)
 unfolding fadeAt
 advanced-moved m vs t h = advanced-lasting (moved m vs t) h
 
-abbrev sideFrame : (StereoGiven → ℤ) → Mixer → ℤ
-sideFrame side m = leveled (enveloped (advanced m)) (sideTotal side (voicesOf (enveloped (advanced m))))
+abbrev sideFrame : (StereoGiven → ℤ) → Marks → Mixer → ℤ
+sideFrame side r m =
+    let b = enveloped (advanced m) in
+    let q = marksAdvanced m r in
+    leveled q b (sideTotal side (pairsOf q (voicesOf b)))
 
-level-kept : (m : Mixer) (vs : List Voice) (t : ℕ) (z : ℤ) → leveled (enveloped (moved m vs t)) z ≡ leveled m z
+level-kept : (r : Marks) (m : Mixer) (vs : List Voice) (t : ℕ) (z : ℤ) → leveled r (enveloped (moved m vs t)) z ≡ leveled r m z
 unfolding enveloped fadeAt
-level-kept m vs t z = refl
+level-kept r m vs t z = refl
 
-side-at : (side : StereoGiven → ℤ) (k : ℕ) (m : Mixer) → Slow m (suc k)
-    → sideFrame side (after stereoStep k m) ≡ leveled m (sumOver (sideAt side k) (voicesOf m))
-side-at side k m h =
+side-at : (side : StereoGiven → ℤ) (r : Marks) (k : ℕ) (m : Mixer) → Slow m (suc k)
+    → sideFrame side r (after stereoStep k m) ≡ leveled r m (sumAt (sideAt side r k) 0 (voicesOf m))
+side-at side r k m h =
     let vs = runAll k (m .n) (m .voices) in
     let t = m .«crossfade_t_q8» + k * pace m in
-    rw (after-stereo k m (lasts-fewer k m h), advanced-moved m vs t (goes-on k m vs h))
-    (level-kept m vs (t + pace m) (sideTotal side (voicesOf (enveloped (moved m vs (t + pace m))))) ∙ ap (leveled m) (side-enveloped side k m (t + pace m)))
+    rw (after-stereo k m (lasts-fewer k m h), marks-lasting r (moved m vs t) (goes-on k m vs h), advanced-moved m vs t (goes-on k m vs h))
+    (level-kept r m vs (t + pace m) (sideTotal side (pairsOf r (voicesOf (enveloped (moved m vs (t + pace m))))))
+    ∙ ap (leveled r m) (side-enveloped side r k m (t + pace m)))
 
 -- the samples of stereo frame k
-pub left-at : (k : ℕ) (m : Mixer) → Slow m (suc k) → stereoFrame (after stereoStep k m) .left ≡ leveled m (sumOver (sideAt leftOf k) (voicesOf m))
-unfolding stereoFrame
-left-at k m h = side-at leftOf k m h
+pub left-at : (r : Marks) (k : ℕ) (m : Mixer) → Slow m (suc k)
+    → stereoFrameBy r (after stereoStep k m) .left ≡ leveled r m (sumAt (sideAt leftOf r k) 0 (voicesOf m))
+unfolding stereoFrameBy
+left-at r k m h = side-at leftOf r k m h
 
-pub right-at : (k : ℕ) (m : Mixer) → Slow m (suc k) → stereoFrame (after stereoStep k m) .right ≡ leveled m (sumOver (sideAt rightOf k) (voicesOf m))
-unfolding stereoFrame
-right-at k m h = side-at rightOf k m h
+pub right-at : (r : Marks) (k : ℕ) (m : Mixer) → Slow m (suc k)
+    → stereoFrameBy r (after stereoStep k m) .right ≡ leveled r m (sumAt (sideAt rightOf r k) 0 (voicesOf m))
+unfolding stereoFrameBy
+right-at r k m h = side-at rightOf r k m h
 
 -- ---- the frame in which the fade ends
 
@@ -377,23 +412,34 @@ ending-is m h =
 advanced-ending : (m : Mixer) → Ends m → advanced m ≡ advanced (fadeEnded m)
 advanced-ending m h = ending-is m h ∙ sym (advanced-quiet (fadeEnded m) (ended-quiet m))
 
--- such a frame is the frame of the state with the fade ended, of both kinds
-pub mono-ending : (m : Mixer) → Ends m → monoFrame m ≡ monoFrame (fadeEnded m)
-unfolding monoFrame
-mono-ending m h = rw (advanced-ending m h)
+-- the marks go with the sources
+marks-end : (r : Marks) (m : Mixer) → Ends m → marksAdvanced m r ≡ marksEnded r
+unfolding marksAdvanced
+marks-end r m h =
+    let l = h .last in
+    let e : eqb (nextT m) 255 ≡ true = eq-eqb (nextT m) 255 (omega arith) in
+    rw (h .active, e)
 
-pub stereo-ending : (m : Mixer) → Ends m → stereoFrame m ≡ stereoFrame (fadeEnded m)
-unfolding stereoFrame
-stereo-ending m h = rw (advanced-ending m h)
+pub marks-ending : (r : Marks) (m : Mixer) → Ends m → marksAdvanced m r ≡ marksAdvanced (fadeEnded m) (marksEnded r)
+marks-ending r m h = marks-end r m h ∙ sym (marks-quiet (marksEnded r) (fadeEnded m) (ended-quiet m))
+
+-- such a frame is the frame of the state with the fade ended, of both kinds
+pub mono-ending : (r : Marks) (m : Mixer) → Ends m → monoFrameBy r m ≡ monoFrameBy (marksEnded r) (fadeEnded m)
+unfolding monoFrameBy
+mono-ending r m h = rw (advanced-ending m h, marks-ending r m h)
+
+pub stereo-ending : (r : Marks) (m : Mixer) → Ends m → stereoFrameBy r m ≡ stereoFrameBy (marksEnded r) (fadeEnded m)
+unfolding stereoFrameBy
+stereo-ending r m h = rw (advanced-ending m h, marks-ending r m h)
 
 -- frames from two states from which the first step is the same
-module _ (step : Mixer → Mixer) (a b : Mixer) (e : step a ≡ step b) where
+module _ {State : Type 0} (step : State → State) (a b : State) (e : step a ≡ step b) where
   pub after-same : (k : ℕ) → 0 < k → after step k a ≡ after step k b
   unfolding after
   after-same zero h = absurd (omega arith)
   after-same (suc k) h = rw e
 
-  pub samples-same : (sample : Mixer → ℤ) → sample a ≡ sample b → (k : ℕ) → sample (after step k a) ≡ sample (after step k b)
+  pub samples-same : (sample : State → ℤ) → sample a ≡ sample b → (k : ℕ) → sample (after step k a) ≡ sample (after step k b)
   unfolding after
   samples-same sample s zero = s
   samples-same sample s (suc k) = rw e

@@ -5,30 +5,30 @@ use native.Mathlib.Numerals.{add-one}
 use native.Mathlib.Omega.{arith}
 use mathlib.Core.Path.{_≡_, refl, sym, ap, _∙_}
 use mathlib.Core.Bool.{Bool, true, false}
-use mathlib.Core.List.{List, [], _∷_}
+use mathlib.Core.List.{List, [], _∷_, _++_}
 use lib.IntN.{ℤ, pos}
-use lib.ListN.{length, getD, set}
+use lib.ListN.{length, getD, set, drop}
 use lib.Seq.{set-comm, set-set, getD-set-other}
 use Rattle.frame.specs.Fades.{takenOver, fadeEnded, fadeAt}
-use Rattle.frame.specs.Frames.{monoFrame, stereoFrame}
+use Rattle.frame.specs.Presents.{stereoNext, pcmOf, leftSide, rightSide}
 use Rattle.frame.specs.Runs.{monoStep, stereoStep}
-use Rattle.frame.specs.declared.MonoFrame.{MonoFrame}
-use Rattle.frame.specs.declared.StereoFrame.{StereoFrame}
 use Rattle.frame.proofs.Laws.{valid-mono, valid-stereo}
 use Rattle.laws.specs.Lists.{mapFirst}
-use Rattle.laws.proofs.Bools.{never}
 use Rattle.laws.specs.Runs.{after, given}
 use Rattle.laws.proofs.Lists.{mapFirst-step, getD-any}
 use Rattle.laws.proofs.Runs.{after-parts}
+use Rattle.marks.specs.declared.Marks.{Marks}
+use Rattle.marks.specs.declared.Present.{Present}
 use Rattle.mixer.specs.Mixers.{Valid}
 use Rattle.mixer.specs.declared.Mixer.{Mixer}
 use Rattle.voice.specs.Voices.{silentVoice, stoppedVoice}
 use Rattle.voice.specs.declared.Voice.{Voice}
-use Rattle.block.specs.Blocks.{stepOf, leftOf, front, rightCells, Block}
-use Rattle.block.specs.Parts.{Slow, FadeFrames, MonoPart, RightPart, Part, frameAt, pace}
+use Rattle.block.specs.Blocks.{nextOf, leftOf, rightCells, Block}
+use Rattle.block.specs.Parts.{stepOf, leftBy, Slow, FadeFrames, MonoPart, RightPart, Part, RightStretch, Stretch, frameAt, pace}
 use Rattle.block.specs.Cells.{Written}
+use Rattle.block.proofs.Boxes.{after-steady, endedState, Joins, joins}
 use Rattle.block.proofs.Cells.{written-both, written-whole, written-as}
-use Rattle.block.proofs.Frames.{given-at, given-length, moved, runAll, runPair, after-pair, after-stereo, Ends, mono-ending, stereo-ending, after-same, samples-same}
+use Rattle.block.proofs.Frames.{given-at, given-length, moved, runAll, runPair, after-pair, after-stereo, Ends, after-same, samples-same}
 
 valid-run : (step : Mixer → Mixer) → ((m : Mixer) → Valid m → Valid (step m)) → (k : ℕ) (m : Mixer) → Valid m → Valid (after step k m)
 unfolding after
@@ -109,18 +109,18 @@ fade-frames t step len most r q h s e f =
     record { most = omega arith; goes = λ x z. omega arith; ends = λ z. (q, (let g : r ≡ most = omega arith in rw g (omega arith))) }
 
 -- ---- a block in one part or two, of frames of either kind
-module _ (step : Mixer → Mixer) where
+module _ {State : Type 0} (step : State → State) where
   -- one part from cell 0 on
-  cells-whole : (sample : Mixer → ℤ) (m : Mixer) (n : ℕ) {was is : List ℤ} → n ≤ 256 → length was ≡ 256
-      → Written (pos 0) (frameAt step sample m 0) 0 (0 + n) was is → is ≡ front step sample n m was
+  cells-whole : (sample : State → ℤ) (m : State) (n : ℕ) {was is : List ℤ} → n ≤ 256 → length was ≡ 256
+      → Written (pos 0) (frameAt step sample m 0) 0 (0 + n) was is → is ≡ given step (λ m. sample m ∷ []) n m ++ drop n was
   cells-whole sample m n l e c =
       let z : 0 + n ≡ n = omega arith in
       written-whole (given step (λ m. sample m ∷ []) n m) (rw z at c) (omega arith) (given-length step sample n m)
       (λ j h. given-at step sample n j m (pos 0) h ∙ ap (λ (k : ℕ). sample (after step k m)) (omega arith))
 
   -- a second part, from a state whose first step is the one that follows the first part
-  module _ (m b : Mixer) (f n : ℕ) (l : f < n) (e : step (after step f m) ≡ step b) where
-    cells-both : (sample : Mixer → ℤ) {was mid is : List ℤ} → sample (after step f m) ≡ sample b → Written (pos 0) (frameAt step sample m 0) 0 (0 + f) was mid
+  module _ (m b : State) (f n : ℕ) (l : f < n) (e : step (after step f m) ≡ step b) where
+    cells-both : (sample : State → ℤ) {was mid is : List ℤ} → sample (after step f m) ≡ sample b → Written (pos 0) (frameAt step sample m 0) 0 (0 + f) was mid
         → Written (pos 0) (frameAt step sample b f) f (f + (n - f)) mid is → Written (pos 0) (frameAt step sample m 0) 0 (0 + n) was is
     cells-both sample s v w =
         let y : 0 + f ≡ f = omega arith in
@@ -137,23 +137,38 @@ module _ (step : Mixer → Mixer) where
         let z : n ≡ f + (n - f) = omega arith in
         ap (λ (k : ℕ). after step k m) z ∙ after-parts step f (n - f) m ∙ after-same step (after step f m) b e (n - f) (omega arith)
 
--- a frame in which the fade ends is the frame of the state with the fade ended
-record Joins (sides : Bool) (x b : Mixer) : Type 0 where
-  step : stepOf sides x ≡ stepOf sides b
-  left : leftOf sides x ≡ leftOf sides b
-  right : sides ≡ true → stereoFrame x .right ≡ stereoFrame b .right
-
-joins : (sides : Bool) (x : Mixer) → Ends x → Joins sides x (fadeEnded x)
-joins true x h =
-    let e = stereo-ending x h in
-    record { step = ap (λ (f : StereoFrame). f .mixer) e; left = ap (λ (f : StereoFrame). f .left) e; right = λ z. ap (λ (f : StereoFrame). f .right) e }
-joins false x h =
-    let e = mono-ending x h in
-    record { step = ap (λ (f : MonoFrame). f .mixer) e; left = ap (λ (f : MonoFrame). f .pcm) e; right = λ z. never z }
-
 -- mono frames leave the right side alone
-pub mono-part : {m r : Mixer} {at len : ℕ} {was is : List ℤ} (other : List ℤ) → MonoPart m at len was r is → Part false m at len was other r is other
+pub mono-part : {q : Marks} {m r : Mixer} {at len : ℕ} {was is : List ℤ} (other : List ℤ) → MonoPart q m at len was r is → Part false q m at len was other r is other
 mono-part other p = record { mixer = p .mixer; left = p .cells; right = refl }
+
+-- frames in which no fade ends are the mixer's, beside marks that stay
+module _ (k : Marks) (m : Mixer) (len : ℕ) (slow : Slow m len) where
+  slow-fewer : (i : ℕ) → i ≤ len → Slow m i
+  slow-fewer i l a z = omega (arith, slow a (omega arith), mul-le-mul-right {m = i} {n = len} (m .«crossfade_step_q8») l)
+
+  steady-cells : (sides : Bool) (sample : Present → ℤ) {at : ℕ} {was is : List ℤ}
+      → Written (pos 0) (frameAt (stepOf sides) (λ m. sample (record { mixer = m; marks = k })) m at) at (at + len) was is
+      → Written (pos 0) (frameAt (nextOf sides) sample (record { mixer = m; marks = k }) at) at (at + len) was is
+  steady-cells sides sample {at} w =
+      written-as (λ j h l. ap sample (sym (after-steady sides k (j - at) m (slow-fewer (j - at) (omega arith))))) w
+
+  steady-right : (sides : Bool) (at : ℕ) (was is : List ℤ) → RightPart sides k m at len was is → RightStretch sides (record { mixer = m; marks = k }) at len was is
+  steady-right true at was is p = steady-cells true rightSide p
+  steady-right false at was is p = p
+
+  steady-left : (sides : Bool) {at : ℕ} {was is : List ℤ} → Written (pos 0) (frameAt (stepOf sides) (leftBy sides k) m at) at (at + len) was is
+      → Written (pos 0) (frameAt (nextOf sides) (leftOf sides) (record { mixer = m; marks = k }) at) at (at + len) was is
+  steady-left true w = steady-cells true leftSide w
+  steady-left false w = steady-cells false pcmOf w
+
+  pub part-stretch : {sides : Bool} {at : ℕ} {lw rr li ri : List ℤ} {out : Mixer} → Part sides k m at len lw rr out li ri
+      → Stretch sides (record { mixer = m; marks = k }) at len lw rr (record { mixer = out; marks = k }) li ri
+  part-stretch {sides} {at} {rr = rr} {ri = ri} p =
+      record {
+        state = record { same = rw (p .mixer .same) (sym (after-steady sides k len m slow)); valid = p .mixer .valid };
+        left = steady-left sides (p .left);
+        right = steady-right sides at rr ri (p .right);
+      }
 
 -- the first part of a block in which a fade ends
 module _ (m : Mixer) (f n : ℕ) (v : Valid m) (h : FadeFrames (m .«crossfade_active») (m .«crossfade_t_q8») (m .«crossfade_step_q8») n f) where
@@ -176,28 +191,28 @@ module _ (m : Mixer) (f n : ℕ) (v : Valid m) (h : FadeFrames (m .«crossfade_a
       let k = v .fade q .0 in
       rw (after-pair f m (q, k, omega (arith, v .full)) slow-part) (part-ends (runPair f (m .n) (m .voices)) l)
 
-  right-both : (sides : Bool) (b : Mixer) (was mid is : List ℤ) → f < n → Joins sides (after (stepOf sides) f m) b → RightPart sides m 0 f was mid → RightPart sides b f (n - f) mid is
-      → RightPart sides m 0 n was is
-  right-both true b was mid is l j x y = cells-both stereoStep m b f n l (j .step) (λ m. stereoFrame m .right) (j .right refl) x y
-  right-both false b was mid is l j x y = y ∙ x
+right-both : (p b : Present) (f n : ℕ) (sides : Bool) (was mid is : List ℤ) → f < n → Joins sides (after (nextOf sides) f p) b → RightStretch sides p 0 f was mid → RightStretch sides b f (n - f) mid is
+    → RightStretch sides p 0 n was is
+right-both p b f n true was mid is l j x y = cells-both stereoNext p b f n l (j .step) rightSide (j .right refl) x y
+right-both p b f n false was mid is l j x y = y ∙ x
 
-  -- both parts
-  pub part-two : {sides : Bool} {a b r : Mixer} {lw rr lm rm li ri : List ℤ} → b ≡ fadeEnded a → f < n → Part sides m 0 f lw rr a lm rm → Part sides b f (n - f) lm rm r li ri
-      → Part sides m 0 n lw rr r li ri
-  part-two {sides} {a} {b} {r} {lw} {rr} {lm} {rm} {li} {ri} d l x y =
-      let j : Joins sides (after (stepOf sides) f m) b = rw (d, x .mixer .same) (joins sides (after (stepOf sides) f m) (next-ends sides l)) in
-      record {
-        mixer = record { same = y .mixer .same ∙ sym (state-both (stepOf sides) m b f n l (j .step)); valid = y .mixer .valid };
-        left = cells-both (stepOf sides) m b f n l (j .step) (leftOf sides) (j .left) (x .left) (y .left);
-        right = right-both sides b rr rm ri l j (x .right) (y .right);
-      }
+-- both parts
+pub stretch-two : {sides : Bool} {p a b r : Present} {f n : ℕ} {lw rr lm rm li ri : List ℤ} → Ends (a .mixer) → b ≡ endedState a → f < n → Stretch sides p 0 f lw rr a lm rm
+    → Stretch sides b f (n - f) lm rm r li ri → Stretch sides p 0 n lw rr r li ri
+stretch-two {sides} {p} {a} {b} {r} {f} {n} {lw} {rr} {lm} {rm} {li} {ri} h d l x y =
+    let j : Joins sides (after (nextOf sides) f p) b = rw (d, ← x .state .same) (joins sides a h) in
+    record {
+      state = record { same = y .state .same ∙ sym (state-both (nextOf sides) p b f n l (j .step)); valid = y .state .valid };
+      left = cells-both (nextOf sides) p b f n l (j .step) (leftOf sides) (j .left) (x .left) (y .left);
+      right = right-both p b f n sides rr rm ri l j (x .right) (y .right);
+    }
 
-right-whole : (sides : Bool) (m : Mixer) (n : ℕ) (was is : List ℤ) → n ≤ 256 → length was ≡ 256 → RightPart sides m 0 n was is → is ≡ rightCells sides n m was
-right-whole true m n was is l e p = cells-whole stereoStep (λ m. stereoFrame m .right) m n l e p
-right-whole false m n was is l e p = p
+right-whole : (sides : Bool) (p : Present) (n : ℕ) (was is : List ℤ) → n ≤ 256 → length was ≡ 256 → RightStretch sides p 0 n was is → is ≡ rightCells sides n p was
+right-whole true p n was is l e c = cells-whole stereoNext rightSide p n l e c
+right-whole false p n was is l e c = c
 
 -- a part from cell 0 on is the block
-pub part-whole : {sides : Bool} {m r : Mixer} {n k : ℕ} {lw rr li ri : List ℤ} → n ≡ k → n ≤ 256 → length lw ≡ 256 → length rr ≡ 256 → Part sides m 0 n lw rr r li ri
-    → Block sides m k lw rr r li ri
-part-whole {sides} {m} {r} {n} {k} {lw} {rr} {li} {ri} e l f g p =
-    rw (← e) (record { mixer = p .mixer; left = cells-whole (stepOf sides) (leftOf sides) m n l f (p .left); right = right-whole sides m n rr ri l g (p .right) })
+pub stretch-whole : {sides : Bool} {p r : Present} {n k : ℕ} {lw rr li ri : List ℤ} → n ≡ k → n ≤ 256 → length lw ≡ 256 → length rr ≡ 256 → Stretch sides p 0 n lw rr r li ri
+    → Block sides p k lw rr r li ri
+stretch-whole {sides} {p} {r} {n} {k} {lw} {rr} {li} {ri} e l f g c =
+    rw (← e) (record { state = c .state; left = cells-whole (nextOf sides) (leftOf sides) p n l f (c .left); right = right-whole sides p n rr ri l g (c .right) })

@@ -3,10 +3,11 @@ ghost use mathlib.Core.Path.{_≡_};
 ghost use mathlib.Core.Bool.{true};
 ghost use Prim.Native.Nat.{_+_, _*_, _≤_, _<_};
 ghost use Rattle.laws.specs.Made.{Made};
-ghost use Rattle.frame.specs.Fades.{takenOver, fadeEnded};
+ghost use Rattle.frame.specs.Fades.{takenOver, fadeEnded, marksEnded};
 ghost use Rattle.mixer.specs.Mixers.{Valid};
 ghost use Rattle.voice.specs.Voices as S;
 ghost use Rattle.block.specs.Parts.{FadeFrames, Slow, movedOn, restedOthers};
+use marks::Marks;
 use mixer::Mixer;
 use voice::Voice;
 
@@ -58,6 +59,16 @@ pub fn ended(m: Mixer) -> Mixer
     out.voices[0] = first;
     let second = b.stop_immediate();
     out.voices[1] = second;
+    out
+}
+
+// The mark of voice 1 goes with its source.
+pub fn marks_ended(marks: Marks) -> Marks
+    ensures { λ r. ⌜ r ≡ marksEnded marks ⌝ }
+{
+    let mut out = marks;
+    let mark = marks.voices[1];
+    out.voices[0] = mark;
     out
 }
 

@@ -4,8 +4,10 @@ ghost use mathlib.Core.Bool.{true, false};
 ghost use Prim.Native.Nat.{_+_, _≤_, _<_, min};
 ghost use lib.ListN.{length};
 ghost use Rattle.mixer.specs.Mixers.{Valid};
-ghost use Rattle.block.specs.Blocks.{Block};
-ghost use Rattle.block.specs.Parts.{MonoPart, Part, Slow, FadeFrames};
+ghost use Rattle.block.specs.Blocks.{ValidInside, Block};
+ghost use Rattle.block.specs.Parts.{MonoPart, Part, Stretch, Slow, FadeFrames};
+use marks::Marks;
+use marks::Present;
 use mixer::Mixer;
 
 mod ends;
@@ -15,9 +17,9 @@ mod passes;
 fn whole(cells: &[i8]) {}
 
 // len frames outside a fade, written from `at` on.
-fn plain(m: Mixer, at: usize, len: usize, out: &mut [i8; 256]) -> Mixer
+fn plain(m: Mixer, marks: Marks, at: usize, len: usize, out: &mut [i8; 256]) -> Mixer
     requires { ⌜ Valid m × (m .«crossfade_active» ≡ false) × (at + len ≤ 256) × (length (now out) ≡ 256) ⌝ }
-    ensures { λ r. ⌜ MonoPart m at len (now (out .entry)) r (now (out .exit)) ⌝ }
+    ensures { λ r. ⌜ MonoPart marks m at len (now (out .entry)) r (now (out .exit)) ⌝ }
 {
     let n = m.n;
     let mut mixed = m;
@@ -26,7 +28,8 @@ fn plain(m: Mixer, at: usize, len: usize, out: &mut [i8; 256]) -> Mixer
     let mut counts = [0u8; 256];
     for i in 0..n {
         let v = mixed.voices[i];
-        let r = v.run(len, &mut samples);
+        let mark = marks.voices[i];
+        let r = v.run(len, mark.whole, &mut samples);
         let w = r.voice;
         mixed.voices[i] = w;
         let given = r.given;
@@ -34,22 +37,25 @@ fn plain(m: Mixer, at: usize, len: usize, out: &mut [i8; 256]) -> Mixer
         passes::tally(given, &mut counts);
     }
     let config = m.config;
-    passes::write_means(&sums, &counts, config.master_gain_q8, at, len, out);
+    let gain = fixed::gain_factor(config.master_gain_q8, marks.master);
+    passes::write_means(&sums, &counts, gain, at, len, out);
     mixed
 }
 
 // len frames of a fade that goes on after them.
-fn fading(m: Mixer, len: usize, out: &mut [i8; 256]) -> Mixer
+fn fading(m: Mixer, marks: Marks, len: usize, out: &mut [i8; 256]) -> Mixer
     requires { ⌜ Valid m × (m .«crossfade_active» ≡ true) × (len ≤ 256) × (length (now out) ≡ 256) × Slow m len ⌝ }
-    ensures { λ r. ⌜ MonoPart m 0 len (now (out .entry)) r (now (out .exit)) ⌝ }
+    ensures { λ r. ⌜ MonoPart marks m 0 len (now (out .entry)) r (now (out .exit)) ⌝ }
 {
     let mut mixed = ends::rested(m, len);
     let mut first = [0i8; 256];
     let mut second = [0i8; 256];
     let a = m.voices[0];
-    let ra = a.run(len, &mut first);
+    let ka = marks.voices[0];
+    let ra = a.run(len, ka.whole, &mut first);
     let b = m.voices[1];
-    let rb = b.run(len, &mut second);
+    let kb = marks.voices[1];
+    let rb = b.run(len, kb.whole, &mut second);
     let wa = ra.voice;
     let wb = rb.voice;
     mixed.voices[0] = wa;
@@ -64,7 +70,7 @@ fn fading(m: Mixer, len: usize, out: &mut [i8; 256]) -> Mixer
         nb,
         m.crossfade_t_q8,
         m.crossfade_step_q8,
-        config.master_gain_q8,
+        fixed::gain_factor(config.master_gain_q8, marks.master),
         len,
         out,
     );
@@ -72,9 +78,16 @@ fn fading(m: Mixer, len: usize, out: &mut [i8; 256]) -> Mixer
 }
 
 // len frames in stereo, in which a fade shows only by its end, written from `at` on.
-fn panned(m: Mixer, at: usize, len: usize, left: &mut [i8; 256], right: &mut [i8; 256]) -> Mixer
+fn panned(
+    m: Mixer,
+    marks: Marks,
+    at: usize,
+    len: usize,
+    left: &mut [i8; 256],
+    right: &mut [i8; 256],
+) -> Mixer
     requires { ⌜ Valid m × (at + len ≤ 256) × (length (now left) ≡ 256) × (length (now right) ≡ 256) × Slow m len ⌝ }
-    ensures { λ r. ⌜ Part true m at len (now (left .entry)) (now (right .entry)) r (now (left .exit)) (now (right .exit)) ⌝ }
+    ensures { λ r. ⌜ Part true marks m at len (now (left .entry)) (now (right .entry)) r (now (left .exit)) (now (right .exit)) ⌝ }
 {
     let n = m.n;
     let mut mixed = m;
@@ -84,66 +97,92 @@ fn panned(m: Mixer, at: usize, len: usize, left: &mut [i8; 256], right: &mut [i8
     let counts = [0u8; 256];
     for i in 0..n {
         let v = mixed.voices[i];
-        let r = v.run(len, &mut samples);
+        let mark = marks.voices[i];
+        let r = v.run(len, mark.whole, &mut samples);
         let w = r.voice;
         mixed.voices[i] = w;
         let given = r.given;
         let g = fixed::pan_to_gains_q8(v.pan_q8);
-        passes::add(&samples, g.left as u16, given, &mut lefts);
-        passes::add(&samples, g.right as u16, given, &mut rights);
+        let gl = fixed::gain_factor(g.left, mark.whole);
+        passes::add(&samples, gl, given, &mut lefts);
+        let gr = fixed::gain_factor(g.right, mark.whole);
+        passes::add(&samples, gr, given, &mut rights);
     }
     let config = m.config;
-    passes::write_means(&lefts, &counts, config.master_gain_q8, at, len, left);
-    passes::write_means(&rights, &counts, config.master_gain_q8, at, len, right);
+    let gain = fixed::gain_factor(config.master_gain_q8, marks.master);
+    passes::write_means(&lefts, &counts, gain, at, len, left);
+    passes::write_means(&rights, &counts, gain, at, len, right);
     ends::moved(mixed, len)
 }
 
 // n frames over a fade's end, which is in the frame after f of them.
 fn over_end(
-    m: Mixer,
+    p: Present,
     sides: bool,
     f: usize,
     n: usize,
     left: &mut [i8; 256],
     right: &mut [i8; 256],
+) -> Present
+    requires { ⌜ ValidInside p × (n ≤ 256) × (length (now left) ≡ 256) × (length (now right) ≡ 256) × FadeFrames (p .mixer .«crossfade_active») (p .mixer .«crossfade_t_q8») (p .mixer .«crossfade_step_q8») n f × (f < n) ⌝ }
+    ensures { λ r. ⌜ Stretch sides p 0 n (now (left .entry)) (now (right .entry)) r (now (left .exit)) (now (right .exit)) ⌝ }
+{
+    let m = p.mixer;
+    let marks = ends::marks_ended(p.marks);
+    if sides {
+        let a = panned(m, p.marks, 0, f, left, right);
+        let b = ends::ended(a);
+        let mixer = panned(b, marks, f, n - f, left, right);
+        return Present { mixer, marks };
+    }
+    let a = fading(m, p.marks, f, left);
+    let b = ends::ended(a);
+    let mixer = plain(b, marks, f, n - f, left);
+    Present { mixer, marks }
+}
+
+// n frames, 256 at most, in which no fade ends.
+fn steady(
+    m: Mixer,
+    marks: Marks,
+    sides: bool,
+    n: usize,
+    left: &mut [i8; 256],
+    right: &mut [i8; 256],
 ) -> Mixer
-    requires { ⌜ Valid m × (n ≤ 256) × (length (now left) ≡ 256) × (length (now right) ≡ 256) × FadeFrames (m .«crossfade_active») (m .«crossfade_t_q8») (m .«crossfade_step_q8») n f × (f < n) ⌝ }
-    ensures { λ r. ⌜ Part sides m 0 n (now (left .entry)) (now (right .entry)) r (now (left .exit)) (now (right .exit)) ⌝ }
+    requires { ⌜ Valid m × (n ≤ 256) × (length (now left) ≡ 256) × (length (now right) ≡ 256) × Slow m n ⌝ }
+    ensures { λ r. ⌜ Part sides marks m 0 n (now (left .entry)) (now (right .entry)) r (now (left .exit)) (now (right .exit)) ⌝ }
 {
     if sides {
-        let a = panned(m, 0, f, left, right);
-        let b = ends::ended(a);
-        return panned(b, f, n - f, left, right);
+        return panned(m, marks, 0, n, left, right);
     }
-    let a = fading(m, f, left);
-    let b = ends::ended(a);
-    plain(b, f, n - f, left)
+    if m.crossfade_active {
+        return fading(m, marks, n, left);
+    }
+    plain(m, marks, 0, n, left)
 }
 
 // len frames, 256 at most, in stereo or in mono: `left` takes the samples of the left side, or of the only one, from the front on, and
 // `right` those of the right side.
 pub fn sound(
-    m: Mixer,
+    p: Present,
     sides: bool,
     len: usize,
     left: &mut [i8; 256],
     right: &mut [i8; 256],
-) -> Mixer
-    requires { ⌜ Valid m ⌝ }
-    ensures { λ r. ⌜ Block sides m (min len 256) (now (left .entry)) (now (right .entry)) r (now (left .exit)) (now (right .exit)) ⌝ }
+) -> Present
+    requires { ⌜ ValidInside p ⌝ }
+    ensures { λ r. ⌜ Block sides p (min len 256) (now (left .entry)) (now (right .entry)) r (now (left .exit)) (now (right .exit)) ⌝ }
 {
     whole(&*left);
     whole(&*right);
     let n = tone::block_len(len);
+    let m = p.mixer;
     let f = ends::fade_frames(m.crossfade_active, m.crossfade_t_q8, m.crossfade_step_q8, n);
     if f < n {
-        return over_end(m, sides, f, n, left, right);
+        return over_end(p, sides, f, n, left, right);
     }
-    if sides {
-        return panned(m, 0, n, left, right);
-    }
-    if m.crossfade_active {
-        return fading(m, n, left);
-    }
-    plain(m, 0, n, left)
+    let marks = p.marks;
+    let mixer = steady(m, marks, sides, n, left, right);
+    Present { mixer, marks }
 }

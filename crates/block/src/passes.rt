@@ -44,22 +44,24 @@ fn mean(sum: i16, count: u8) -> i32
     }
 }
 
-fn leveled(sum: i32, gain: u8) -> i8
+fn leveled(sum: i32, gain: u16) -> i8
+    requires { ⌜ gain ≤ 256 ⌝ }
     ensures { λ r. ⌜ r ≡ leveledBy gain sum ⌝ }
 {
-    fixed::apply_gain_q8(fixed::soft_limit_i8(sum), gain)
+    let s = fixed::soft_limit_i8(sum);
+    (((s as i16) * (gain as i16)) >> 8) as i8
 }
 
 // The means, written from `at` on. Stereo, which sums undivided, has counts of 0.
 pub fn write_means(
     sums: &[i16; 256],
     counts: &[u8; 256],
-    gain: u8,
+    gain: u16,
     at: usize,
     len: usize,
     out: &mut [i8; 256],
 )
-    requires { ⌜ (at + len ≤ 256) × (length (now out) ≡ 256) ⌝ }
+    requires { ⌜ (at + len ≤ 256) × (length (now out) ≡ 256) × (gain ≤ 256) ⌝ }
     ensures { λ r. ⌜ Written (pos 0) (meanAt gain (now (sums .entry)) (now (counts .entry)) at) at (at + len) (now (out .entry)) (now (out .exit)) ⌝ }
 {
     for k in 0..len {
@@ -91,11 +93,11 @@ pub fn write_faded(
     n2: usize,
     t: u8,
     step: u8,
-    gain: u8,
+    gain: u16,
     len: usize,
     out: &mut [i8; 256],
 )
-    requires { ⌜ (len ≤ 256) × (length (now out) ≡ 256) × Steady t step len ⌝ }
+    requires { ⌜ (len ≤ 256) × (length (now out) ≡ 256) × Steady t step len × (gain ≤ 256) ⌝ }
     ensures { λ r. ⌜ Written (pos 0) (fadedAt gain t step (now (first .entry)) n (now (second .entry)) n2) 0 len (now (out .entry)) (now (out .exit)) ⌝ }
 {
     let mut mix = t;

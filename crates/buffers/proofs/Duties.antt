@@ -7,15 +7,16 @@ use lib.Dec.{eqb}
 use lib.IntN.{ℤ}
 use Rattle.laws.specs.Runs.{after, given}
 use Rattle.config.specs.declared.AudioConfig.{AudioConfig}
+use Rattle.marks.specs.declared.Marks.{Marks}
+use Rattle.marks.specs.declared.Present.{Present}
 use Rattle.mixer.specs.declared.Mixer.{Mixer}
 use Rattle.output.specs.declared.PwmMapper.{PwmMapper}
-use Rattle.frame.specs.Fades.{fadeEnded, fadeAt, nextT, advanced}
-use Rattle.frame.specs.Frames.{enveloped, sampled, monoMix, withMapper, monoGiven, monoFrame, dutyFrame}
-use Rattle.frame.specs.Runs.{monoStep}
+use Rattle.frame.specs.Fades.{fadeEnded, fadeAt, nextT, advanced, marksAdvanced}
+use Rattle.frame.specs.Frames.{enveloped, sampled, monoMix, withMapper, monoGiven, monoFrameBy, dutyFrameBy}
+use Rattle.frame.specs.Presents.{monoNext, pcmOf}
 use Rattle.frame.specs.declared.MonoFrame.{MonoFrame}
-use Rattle.buffers.proofs.Rows.{pcm}
 use Rattle.buffers.specs.Blocks.{leveled, mapperOver, levelsOver, row}
-use Rattle.buffers.specs.Shapes.{levelStep, levelOf}
+use Rattle.buffers.specs.Shapes.{presentFrames, levelNext, levelCell}
 use Rattle.buffers.specs.declared.Level.{Level}
 use Rattle.buffers.specs.declared.Level.the-variants.{Duty, U12, U16}
 
@@ -36,13 +37,17 @@ advance-mapper m p = by-active (m .«crossfade_active»)
     by-active true = by-end (eqb (nextT m) 255)
     by-active false = refl
 
-given-mapper : (m : Mixer) (p : PwmMapper) → monoGiven (enveloped (withMapper m p)) ≡ mapperIn (monoGiven (enveloped m)) p
+given-mapper : (k : Marks) (m : Mixer) (p : PwmMapper) → monoGiven k (enveloped (withMapper m p)) ≡ mapperIn (monoGiven k (enveloped m)) p
 unfolding enveloped sampled monoMix
-given-mapper m p = refl
+given-mapper k m p = refl
 
-mono-mapper : (m : Mixer) (p : PwmMapper) → monoFrame (withMapper m p) ≡ mapperIn (monoFrame m) p
-unfolding monoFrame
-mono-mapper m p = rw (advance-mapper m p) (given-mapper (advanced m) p)
+mono-mapper : (k : Marks) (m : Mixer) (p : PwmMapper) → monoFrameBy k (withMapper m p) ≡ mapperIn (monoFrameBy k m) p
+unfolding monoFrameBy marksAdvanced
+mono-mapper k m p = rw (advance-mapper m p) (given-mapper (marksAdvanced m k) (advanced m) p)
+
+-- a state with another mapper
+abbrev pub mapperAt : Present → PwmMapper → Present
+mapperAt s p = record { mixer = withMapper (s .mixer) p; marks = s .marks }
 
 -- it keeps mapper and configuration
 advance-keeps : (m : Mixer) → (advanced m .mapper ≡ m .mapper) × (advanced m .config ≡ m .config)
@@ -57,92 +62,100 @@ advance-keeps m = by-active (m .«crossfade_active»)
     by-active true = by-end (eqb (nextT m) 255)
     by-active false = (refl, refl)
 
-mono-keeps : (m : Mixer) → (monoStep m .mapper ≡ m .mapper) × (monoStep m .config ≡ m .config)
-unfolding monoFrame enveloped sampled
-mono-keeps m = advance-keeps m
+mono-keeps : (s : Present) → (monoNext s .mixer .mapper ≡ s .mixer .mapper) × (monoNext s .mixer .config ≡ s .mixer .config)
+unfolding monoFrameBy enveloped sampled
+mono-keeps s = advance-keeps (s .mixer)
 
 -- ---- and frame after frame
-run-keeps : (n : ℕ) (m : Mixer) → (after monoStep n m .mapper ≡ m .mapper) × (after monoStep n m .config ≡ m .config)
+run-keeps : (n : ℕ) (s : Present) → (after monoNext n s .mixer .mapper ≡ s .mixer .mapper) × (after monoNext n s .mixer .config ≡ s .mixer .config)
 unfolding after
-run-keeps zero m = (refl, refl)
-run-keeps (suc n) m =
-    let h = run-keeps n (monoStep m) in
-    let k = mono-keeps m in
+run-keeps zero s = (refl, refl)
+run-keeps (suc n) s =
+    let h = run-keeps n (monoNext s) in
+    let k = mono-keeps s in
     (h .0 ∙ k .0, h .1 ∙ k .1)
 
-step-mapper : (m : Mixer) (p : PwmMapper) → monoStep (withMapper m p) ≡ withMapper (monoStep m) p
-step-mapper m p = ap (λ (f : MonoFrame). f .mixer) (mono-mapper m p)
+step-mapper : (s : Present) (p : PwmMapper) → monoNext (mapperAt s p) ≡ mapperAt (monoNext s) p
+unfolding marksAdvanced
+step-mapper s p =
+    ap (λ (f : MonoFrame). record { mixer = f .mixer; marks = marksAdvanced (s .mixer) (s .marks) }) (mono-mapper (s .marks) (s .mixer) p)
 
-after-mapper : (n : ℕ) (m : Mixer) (p : PwmMapper) → after monoStep n (withMapper m p) ≡ withMapper (after monoStep n m) p
+after-mapper : (n : ℕ) (s : Present) (p : PwmMapper) → after monoNext n (mapperAt s p) ≡ mapperAt (after monoNext n s) p
 unfolding after
-after-mapper zero m p = refl
-after-mapper (suc n) m p = ap (after monoStep n) (step-mapper m p) ∙ after-mapper n (monoStep m) p
+after-mapper zero s p = refl
+after-mapper (suc n) s p = ap (after monoNext n) (step-mapper s p) ∙ after-mapper n (monoNext s) p
 
-row-mapper : (n : ℕ) (m : Mixer) (p : PwmMapper) → row monoStep pcm n (withMapper m p) ≡ row monoStep pcm n m
+row-mapper : (n : ℕ) (s : Present) (p : PwmMapper) → row monoNext pcmOf n (mapperAt s p) ≡ row monoNext pcmOf n s
 unfolding given
-row-mapper zero m p = refl
-row-mapper (suc n) m p =
-    ap (λ (s : ℤ). s ∷ row monoStep pcm n (monoStep (withMapper m p))) (ap (λ (f : MonoFrame). f .pcm) (mono-mapper m p))
-    ∙ ap (λ (l : List ℤ). pcm m ∷ l) (ap (row monoStep pcm n) (step-mapper m p) ∙ row-mapper n (monoStep m) p)
+row-mapper zero s p = refl
+row-mapper (suc n) s p =
+    ap (λ (z : ℤ). z ∷ row monoNext pcmOf n (monoNext (mapperAt s p))) (ap (λ (f : MonoFrame). f .pcm) (mono-mapper (s .marks) (s .mixer) p))
+    ∙ ap (λ (l : List ℤ). pcmOf s ∷ l) (ap (row monoNext pcmOf n) (step-mapper s p) ∙ row-mapper n (monoNext s) p)
 
-abbrev period : Mixer → ℕ
-period m = m .config .«pwm_period»
+abbrev period : Present → ℕ
+period s = s .mixer .config .«pwm_period»
 
 -- the mapper after the first sample, under a mapper and a configuration
-abbrev next : Level → Mixer → PwmMapper → AudioConfig → PwmMapper
-next l m p c = leveled l (c .«pwm_period») p (pcm m) .mapper
+abbrev next : Level → Present → PwmMapper → AudioConfig → PwmMapper
+next l s p c = leveled l (c .«pwm_period») p (pcmOf s) .mapper
+
+abbrev stepOf : Level → Present → Present
+stepOf l = levelNext presentFrames l
+
+abbrev cellOf : Level → Present → List ℕ
+cellOf l = levelCell presentFrames l
 
 -- a frame of a level, and its cell
-level-step : (l : Level) (m : Mixer) → levelStep l m ≡ withMapper (monoStep m) (next l m (monoStep m .mapper) (monoStep m .config))
-unfolding dutyFrame
-level-step Duty m = refl
-level-step U12 m = refl
-level-step U16 m = refl
+level-step : (l : Level) (s : Present) → stepOf l s ≡ mapperAt (monoNext s) (next l s (monoNext s .mixer .mapper) (monoNext s .mixer .config))
+unfolding dutyFrameBy
+level-step Duty s = refl
+level-step U12 s = refl
+level-step U16 s = refl
 
-level-cell : (l : Level) (m : Mixer) → levelOf l m ≡ leveled l (period (monoStep m)) (monoStep m .mapper) (pcm m) .duty ∷ []
-unfolding dutyFrame
-level-cell Duty m = refl
-level-cell U12 m = refl
-level-cell U16 m = refl
+level-cell : (l : Level) (s : Present) → cellOf l s ≡ leveled l (period (monoNext s)) (monoNext s .mixer .mapper) (pcmOf s) .duty ∷ []
+unfolding dutyFrameBy
+level-cell Duty s = refl
+level-cell U12 s = refl
+level-cell U16 s = refl
 
 module _ (l : Level) where
-  level-after : (n : ℕ) (m : Mixer) → after (levelStep l) n m ≡ withMapper (after monoStep n m) (mapperOver l (period m) (m .mapper) (row monoStep pcm n m))
+  level-after : (n : ℕ) (s : Present) → after (stepOf l) n s ≡ mapperAt (after monoNext n s) (mapperOver l (period s) (s .mixer .mapper) (row monoNext pcmOf n s))
   unfolding after given mapperOver
-  level-after zero m = refl
-  level-after (suc n) m =
-      let k = mono-keeps m in
-      let x = monoStep m in
-      let q = next l m (x .mapper) (x .config) in
-      ap (after (levelStep l) n) (level-step l m)
-      ∙ level-after n (withMapper x q)
-      ∙ ap (λ (y : Mixer). withMapper y (mapperOver l (period x) q (row monoStep pcm n (withMapper x q)))) (after-mapper n x q)
-      ∙ ap (λ (s : List ℤ). withMapper (after monoStep n x) (mapperOver l (period x) q s)) (row-mapper n x q)
-      ∙ ap (λ (a : PwmMapper). withMapper (after monoStep n x) (mapperOver l (period x) (next l m a (x .config)) (row monoStep pcm n x))) (k .0)
-      ∙ ap (λ (c : AudioConfig). withMapper (after monoStep n x) (mapperOver l (c .«pwm_period») (next l m (m .mapper) c) (row monoStep pcm n x))) (k .1)
+  level-after zero s = refl
+  level-after (suc n) s =
+      let k = mono-keeps s in
+      let x = monoNext s in
+      let q = next l s (x .mixer .mapper) (x .mixer .config) in
+      ap (after (stepOf l) n) (level-step l s)
+      ∙ level-after n (mapperAt x q)
+      ∙ ap (λ (y : Present). mapperAt y (mapperOver l (period x) q (row monoNext pcmOf n (mapperAt x q)))) (after-mapper n x q)
+      ∙ ap (λ (r : List ℤ). mapperAt (after monoNext n x) (mapperOver l (period x) q r)) (row-mapper n x q)
+      ∙ ap (λ (a : PwmMapper). mapperAt (after monoNext n x) (mapperOver l (period x) (next l s a (x .mixer .config)) (row monoNext pcmOf n x))) (k .0)
+      ∙ ap (λ (c : AudioConfig). mapperAt (after monoNext n x) (mapperOver l (c .«pwm_period») (next l s (s .mixer .mapper) c) (row monoNext pcmOf n x))) (k .1)
 
-  level-given : (n : ℕ) (m : Mixer) → given (levelStep l) (levelOf l) n m ≡ levelsOver l (period m) (m .mapper) (row monoStep pcm n m)
+  level-given : (n : ℕ) (s : Present) → given (stepOf l) (cellOf l) n s ≡ levelsOver l (period s) (s .mixer .mapper) (row monoNext pcmOf n s)
   unfolding given levelsOver
-  level-given zero m = refl
-  level-given (suc n) m =
-      let k = mono-keeps m in
-      let x = monoStep m in
-      let q = next l m (x .mapper) (x .config) in
-      ap (λ (d : List ℕ). d ++ given (levelStep l) (levelOf l) n (levelStep l m)) (level-cell l m)
-      ∙ ap (λ (s : List ℕ). leveled l (period x) (x .mapper) (pcm m) .duty ∷ s)
-      (ap (given (levelStep l) (levelOf l) n) (level-step l m)
-      ∙ level-given n (withMapper x q)
+  level-given zero s = refl
+  level-given (suc n) s =
+      let k = mono-keeps s in
+      let x = monoNext s in
+      let q = next l s (x .mixer .mapper) (x .mixer .config) in
+      ap (λ (d : List ℕ). d ++ given (stepOf l) (cellOf l) n (stepOf l s)) (level-cell l s)
+      ∙ ap (λ (r : List ℕ). leveled l (period x) (x .mixer .mapper) (pcmOf s) .duty ∷ r)
+      (ap (given (stepOf l) (cellOf l) n) (level-step l s)
+      ∙ level-given n (mapperAt x q)
       ∙ ap (levelsOver l (period x) q) (row-mapper n x q))
-      ∙ ap (λ (a : PwmMapper). leveled l (period x) a (pcm m) .duty ∷ levelsOver l (period x) (next l m a (x .config)) (row monoStep pcm n x)) (k .0)
-      ∙ ap (λ (c : AudioConfig). leveled l (c .«pwm_period») (m .mapper) (pcm m) .duty ∷ levelsOver l (c .«pwm_period») (next l m (m .mapper) c) (row monoStep pcm n x)) (k .1)
+      ∙ ap (λ (a : PwmMapper). leveled l (period x) a (pcmOf s) .duty ∷ levelsOver l (period x) (next l s a (x .mixer .config)) (row monoNext pcmOf n x)) (k .0)
+      ∙ ap (λ (c : AudioConfig). leveled l (c .«pwm_period») (s .mixer .mapper) (pcmOf s) .duty ∷ levelsOver l (c .«pwm_period») (next l s (s .mixer .mapper) c) (row monoNext pcmOf n x)) (k .1)
 
   -- frames of a level keep the period
-  pub level-period : (n : ℕ) (m : Mixer) → period (after (levelStep l) n m) ≡ period m
-  level-period n m = rw (level-after n m, run-keeps n m .1)
+  pub level-period : (n : ℕ) (s : Present) → period (after (stepOf l) n s) ≡ period s
+  level-period n s = rw (level-after n s, run-keeps n s .1)
 
   -- the state and the cells that the mapper over a block's samples makes
-  module _ (m x : Mixer) (n p : ℕ) (samples : List ℤ) (h : x ≡ after monoStep n m) (e : p ≡ period m) (c : samples ≡ row monoStep pcm n m) where
-    pub state-is : (q : PwmMapper) → q ≡ mapperOver l p (x .mapper) samples → withMapper x q ≡ after (levelStep l) n m
-    state-is q g = rw (g, e, c, level-after n m, h, run-keeps n m .0)
+  module _ (s x : Present) (n p : ℕ) (samples : List ℤ) (h : x ≡ after monoNext n s) (e : p ≡ period s) (c : samples ≡ row monoNext pcmOf n s) where
+    pub state-is : (q : PwmMapper) → q ≡ mapperOver l p (x .mixer .mapper) samples → mapperAt x q ≡ after (stepOf l) n s
+    state-is q g = rw (g, e, c, level-after n s, h, run-keeps n s .0)
 
-    pub cells-are : levelsOver l p (x .mapper) samples ≡ given (levelStep l) (levelOf l) n m
-    cells-are = rw (e, c, level-given n m, h, run-keeps n m .0)
+    pub cells-are : levelsOver l p (x .mixer .mapper) samples ≡ given (stepOf l) (cellOf l) n s
+    cells-are = rw (e, c, level-given n s, h, run-keeps n s .0)

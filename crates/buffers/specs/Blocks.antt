@@ -5,7 +5,6 @@ use mathlib.Core.List.{List, [], _∷_, map}
 use lib.IntN.{ℤ}
 use lib.ListN.{length, take}
 use Rattle.laws.specs.Runs.{given}
-use Rattle.mixer.specs.declared.Mixer.{Mixer}
 use Rattle.output.specs.Duty.{mapped}
 use Rattle.output.specs.declared.Mapped.{Mapped}
 use Rattle.output.specs.declared.PwmMapper.{PwmMapper}
@@ -54,6 +53,6 @@ pub record Laid (shape : Shape) (n cells : ℕ) (left right samples : List ℤ) 
   pub gave : take cells samples ≡ laid shape (take n left) (take n right)
   pub room : length samples ≡ 512
 
--- n frames of the box: what its rows hold
-abbrev pub row : (Mixer → Mixer) → (Mixer → ℤ) → ℕ → Mixer → List ℤ
-row step sample n m = given step (λ m. sample m ∷ []) n m
+-- n frames of a box: what its rows hold
+abbrev pub row : {State : Type 0} → (State → State) → (State → ℤ) → ℕ → State → List ℤ
+row step sample n s = given step (λ s. sample s ∷ []) n s

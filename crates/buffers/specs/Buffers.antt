@@ -10,22 +10,31 @@ use Rattle.laws.specs.Runs.{after, given}
 use Rattle.mixer.specs.Mixers.{Valid}
 use Rattle.mixer.specs.declared.Mixer.{Mixer}
 use Rattle.output.specs.Levels.{raised}
-use Rattle.buffers.specs.declared.Filled.{Filled}
 
-module _ {A : Type 0} (step : Mixer → Mixer) (gives : Mixer → List A) where
+-- a state after a buffer was filled, and how many cells were written
+pub record Done (State : Type 0) : Type 0 where
+  pub state : State
+  pub filled : ℕ
+
+module _ {State A : Type 0} (Good : State → Type 0) (step : State → State) (gives : State → List A) where
   -- so many frames, the cells that they gave from the front on, the cells after them as they were; "a filled length counts the
   -- cells written"
-  pub record Fills (frames written : ℕ) (m : Mixer) (cells : List A) (r : Filled) (filled : List A) : Type 0 where
-    pub mixer : Made Valid (after step frames m) (r .mixer)
+  pub record FillsIn (frames written : ℕ) (s : State) (cells : List A) (r : Done State) (filled : List A) : Type 0 where
+    pub state : Made Good (after step frames s) (r .state)
     pub count : r .filled ≡ written
-    pub content : filled ≡ given step gives frames m ++ drop written cells
+    pub content : filled ≡ given step gives frames s ++ drop written cells
+
+-- of document 01's states
+module _ {A : Type 0} (step : Mixer → Mixer) (gives : Mixer → List A) where
+  abbrev pub Fills : ℕ → ℕ → Mixer → List A → Done Mixer → List A → Type 0
+  Fills frames written m cells r filled = FillsIn Valid step gives frames written m cells r filled
 
   -- a frame for each cell
-  abbrev pub FillsAll : Mixer → List A → Filled → List A → Type 0
+  abbrev pub FillsAll : Mixer → List A → Done Mixer → List A → Type 0
   FillsAll m cells r filled = Fills (length cells) (length cells) m cells r filled
 
   -- a frame for each pair; "An odd last stereo cell is not written"
-  abbrev pub FillsPairs : Mixer → List A → Filled → List A → Type 0
+  abbrev pub FillsPairs : Mixer → List A → Done Mixer → List A → Type 0
   FillsPairs m cells r filled = Fills (length cells / 2) (length cells / 2 * 2) m cells r filled
 
 -- ---- what a frame gives to a buffer, by the scale of its cells

@@ -1,12 +1,12 @@
 // The buffer calls: blocks of frames, each cell scaled as the buffer's kind asks.
 ghost use mathlib.Core.Path.{_≡_};
-ghost use Rattle.mixer.specs.Mixers.{Valid};
+ghost use Rattle.block.specs.Blocks.{ValidInside};
 ghost use Rattle.output.specs.Duty.{ValidPeriod};
 ghost use Rattle.output.specs.Levels.{raised};
-ghost use Rattle.buffers.specs.Buffers.{FillsAll, toI8, toI16, toI32};
-ghost use Rattle.buffers.specs.Shapes.{FillsBy, levelStep, levelOf};
+ghost use Rattle.buffers.specs.Buffers.{toI8, toI16, toI32};
+ghost use Rattle.buffers.specs.Shapes.{FillsFrom, LevelsFrom};
 use block::sound;
-use mixer::Mixer;
+use marks::Present;
 use output::Period;
 use output::PeriodRead;
 use tone::block_len;
@@ -15,7 +15,7 @@ mod scales;
 
 // A state after a buffer was filled, and how many cells were written.
 pub struct Filled {
-    pub mixer: Mixer,
+    pub state: Present,
     pub filled: usize,
 }
 
@@ -33,125 +33,128 @@ pub enum Level {
     U16,
 }
 
-pub fn fill_i8(m: Mixer, shape: Shape, out: &mut [i8]) -> Filled
-    requires { ⌜ Valid m ⌝ }
-    ensures { λ r. ⌜ FillsBy toI8 shape m (now (out .entry)) r (now (out .exit)) ⌝ }
+pub fn fill_i8(p: Present, shape: Shape, out: &mut [i8]) -> Filled
+    requires { ⌜ ValidInside p ⌝ }
+    ensures { λ r. ⌜ FillsFrom toI8 shape p (now (out .entry)) r (now (out .exit)) ⌝ }
 {
     let len = out.len();
     let sides = scales::sided(shape);
     let mut left = [0i8; 256];
     let mut right = [0i8; 256];
     let mut raw = [0i8; 512];
-    let mut mixer = m;
+    let mut state = p;
     let mut at: usize = 0;
     let mut n = scales::span(shape, len);
     while n > 0 {
-        mixer = sound(mixer, sides, n, &mut left, &mut right);
+        state = sound(state, sides, n, &mut left, &mut right);
         let k = scales::lay(shape, &left, &right, n, &mut raw);
         scales::put_i8(&raw, k, at, out);
         at += k;
         n = scales::span(shape, len - at);
     }
-    Filled { mixer, filled: at }
+    Filled { state, filled: at }
 }
 
-pub fn fill_i16(m: Mixer, shape: Shape, out: &mut [i16]) -> Filled
-    requires { ⌜ Valid m ⌝ }
-    ensures { λ r. ⌜ FillsBy toI16 shape m (now (out .entry)) r (now (out .exit)) ⌝ }
+pub fn fill_i16(p: Present, shape: Shape, out: &mut [i16]) -> Filled
+    requires { ⌜ ValidInside p ⌝ }
+    ensures { λ r. ⌜ FillsFrom toI16 shape p (now (out .entry)) r (now (out .exit)) ⌝ }
 {
     let len = out.len();
     let sides = scales::sided(shape);
     let mut left = [0i8; 256];
     let mut right = [0i8; 256];
     let mut raw = [0i8; 512];
-    let mut mixer = m;
+    let mut state = p;
     let mut at: usize = 0;
     let mut n = scales::span(shape, len);
     while n > 0 {
-        mixer = sound(mixer, sides, n, &mut left, &mut right);
+        state = sound(state, sides, n, &mut left, &mut right);
         let k = scales::lay(shape, &left, &right, n, &mut raw);
         scales::put_i16(&raw, k, at, out);
         at += k;
         n = scales::span(shape, len - at);
     }
-    Filled { mixer, filled: at }
+    Filled { state, filled: at }
 }
 
-pub fn fill_i32(m: Mixer, shape: Shape, out: &mut [i32]) -> Filled
-    requires { ⌜ Valid m ⌝ }
-    ensures { λ r. ⌜ FillsBy toI32 shape m (now (out .entry)) r (now (out .exit)) ⌝ }
+pub fn fill_i32(p: Present, shape: Shape, out: &mut [i32]) -> Filled
+    requires { ⌜ ValidInside p ⌝ }
+    ensures { λ r. ⌜ FillsFrom toI32 shape p (now (out .entry)) r (now (out .exit)) ⌝ }
 {
     let len = out.len();
     let sides = scales::sided(shape);
     let mut left = [0i8; 256];
     let mut right = [0i8; 256];
     let mut raw = [0i8; 512];
-    let mut mixer = m;
+    let mut state = p;
     let mut at: usize = 0;
     let mut n = scales::span(shape, len);
     while n > 0 {
-        mixer = sound(mixer, sides, n, &mut left, &mut right);
+        state = sound(state, sides, n, &mut left, &mut right);
         let k = scales::lay(shape, &left, &right, n, &mut raw);
         scales::put_i32(&raw, k, at, out);
         at += k;
         n = scales::span(shape, len - at);
     }
-    Filled { mixer, filled: at }
+    Filled { state, filled: at }
 }
 
-pub fn fill_u8(m: Mixer, shape: Shape, out: &mut [u8]) -> Filled
-    requires { ⌜ Valid m ⌝ }
-    ensures { λ r. ⌜ FillsBy raised shape m (now (out .entry)) r (now (out .exit)) ⌝ }
+pub fn fill_u8(p: Present, shape: Shape, out: &mut [u8]) -> Filled
+    requires { ⌜ ValidInside p ⌝ }
+    ensures { λ r. ⌜ FillsFrom raised shape p (now (out .entry)) r (now (out .exit)) ⌝ }
 {
     let len = out.len();
     let sides = scales::sided(shape);
     let mut left = [0i8; 256];
     let mut right = [0i8; 256];
     let mut raw = [0i8; 512];
-    let mut mixer = m;
+    let mut state = p;
     let mut at: usize = 0;
     let mut n = scales::span(shape, len);
     while n > 0 {
-        mixer = sound(mixer, sides, n, &mut left, &mut right);
+        state = sound(state, sides, n, &mut left, &mut right);
         let k = scales::lay(shape, &left, &right, n, &mut raw);
         scales::put_u8(&raw, k, at, out);
         at += k;
         n = scales::span(shape, len - at);
     }
-    Filled { mixer, filled: at }
+    Filled { state, filled: at }
 }
 
 // A frame for each cell, by a period that is the state's own.
-fn fill_levels(m: Mixer, level: Level, period: Period, out: &mut [u16]) -> Filled
-    requires { ⌜ Valid m × ValidPeriod period × (period .counts ≡ m .config .«pwm_period») ⌝ }
-    ensures { λ r. ⌜ FillsAll (levelStep level) (levelOf level) m (now (out .entry)) r (now (out .exit)) ⌝ }
+fn fill_levels(p: Present, level: Level, period: Period, out: &mut [u16]) -> Filled
+    requires { ⌜ ValidInside p × ValidPeriod period × (period .counts ≡ p .mixer .config .«pwm_period») ⌝ }
+    ensures { λ r. ⌜ LevelsFrom level p (now (out .entry)) r (now (out .exit)) ⌝ }
 {
     let len = out.len();
     let mut left = [0i8; 256];
     let mut right = [0i8; 256];
-    let mut mixer = m;
+    let mut state = p;
     let mut at: usize = 0;
     while at < len {
         let n = block_len(len - at);
-        mixer = sound(mixer, false, n, &mut left, &mut right);
+        state = sound(state, false, n, &mut left, &mut right);
+        let mut mixer = state.mixer;
         let old = mixer.mapper;
         let mapper = scales::put_levels(level, old, period, &left, n, at, out);
         mixer.mapper = mapper;
+        state.mixer = mixer;
         at += n;
     }
-    Filled { mixer, filled: at }
+    Filled { state, filled: at }
 }
 
-pub fn fill_u16(m: Mixer, level: Level, out: &mut [u16]) -> Filled
-    requires { ⌜ Valid m ⌝ }
-    ensures { λ r. ⌜ FillsAll (levelStep level) (levelOf level) m (now (out .entry)) r (now (out .exit)) ⌝ }
+pub fn fill_u16(p: Present, level: Level, out: &mut [u16]) -> Filled
+    requires { ⌜ ValidInside p ⌝ }
+    ensures { λ r. ⌜ LevelsFrom level p (now (out .entry)) r (now (out .exit)) ⌝ }
 {
+    let m = p.mixer;
     let config = m.config;
     match Period::new(config.pwm_period) {
-        PeriodRead::Accepted(period) => fill_levels(m, level, period, out),
+        PeriodRead::Accepted(period) => fill_levels(p, level, period, out),
         // A valid state's period is accepted.
         PeriodRead::Refused(e) => Filled {
-            mixer: m,
+            state: p,
             filled: 0,
         },
     }

@@ -9,7 +9,7 @@ use lib.ListN.{length, getD, set, length-set}
 use Rattle.laws.proofs.Bools.{never}
 use Rattle.laws.proofs.Lists.{length-mapFirst}
 use Rattle.frame.specs.Fades.{voiceAt, advanced}
-use Rattle.frame.specs.Frames.{enveloped, sampled, sampledCount, monoFrame, dutyFrame, stereoFrame}
+use Rattle.frame.specs.Frames.{enveloped, sampled, sampledCount, monoFrame, monoFrameBy, dutyFrame, dutyFrameBy, stereoFrame, stereoFrameBy}
 use Rattle.frame.proofs.Voices.{framed-at}
 use Rattle.mixer.specs.Mixers.{voiceRead, panned, pannedAt, withMasterGain}
 use Rattle.mixer.specs.declared.Mixer.{Mixer}
@@ -54,7 +54,7 @@ unfolding enveloped
 count-there m e h = rw e h
 
 ready-mono : (m : Mixer) (b : PolyBlepVoice) → Ready m b → b .active ≡ true → Ready (monoFrame m .mixer) (B.steppedVoice b)
-unfolding monoFrame
+unfolding monoFrameBy
 ready-mono m b h a = rw (still-advanced m (h .still)) (ready-framed m (sampledCount (enveloped m)) b (count-there m (h .still) (h .some)) h a)
 
 some-enveloped : (m : Mixer) → 0 < m .n → 0 < enveloped m .n
@@ -62,11 +62,11 @@ unfolding enveloped
 some-enveloped m h = h
 
 ready-stereo : (m : Mixer) (b : PolyBlepVoice) → Ready m b → b .active ≡ true → Ready (stereoFrame m .mixer) (B.steppedVoice b)
-unfolding stereoFrame
+unfolding stereoFrameBy
 ready-stereo m b h a = rw (still-advanced m (h .still)) (ready-framed m (enveloped m .n) b (some-enveloped m (h .some)) h a)
 
 ready-duty : (m : Mixer) (b : PolyBlepVoice) → Ready m b → b .active ≡ true → Ready (dutyFrame m .mixer) (B.steppedVoice b)
-unfolding dutyFrame
+unfolding dutyFrameBy
 ready-duty m b h a = let r = ready-mono m b h a in record { some = r .some; there = r .there; still = r .still; source = r .source }
 
 -- ---- a setting

@@ -11,8 +11,7 @@ use Rattle.frame.specs.declared.MonoFrame.{MonoFrame}
 use Rattle.frame.specs.declared.DutyFrame.{DutyFrame}
 use Rattle.frame.specs.declared.StereoFrame.{StereoFrame}
 use Rattle.frame.specs.Runs.{monoStep, dutyStep, duties, stereoStep}
-use Rattle.buffers.specs.Buffers.{Fills, toI8, once, sides}
-use Rattle.buffers.specs.declared.Filled.{Filled}
+use Rattle.buffers.specs.Buffers.{Done, Fills, toI8, once, sides}
 use Rattle.mixer.specs.Mixers.{Valid, ValidChanged}
 use Rattle.mixer.specs.declared.Mixer.{Mixer}
 use Rattle.mixer.specs.declared.Changed.{Changed}
@@ -46,18 +45,18 @@ pub made-wide : {x s : EngineSides} {r : EngineWideSides} → Made ValidSides x 
 made-wide {x} {s} {r} h e = record { same = e ∙ ap wideSides (h .same); valid = rw e (h .valid) }
 
 -- ---- a buffer of one frame is that frame
-module _ {m : Mixer} {r : Filled} {w : ℕ} where
+module _ {m : Mixer} {r : Done Mixer} {w : ℕ} where
   pub mono-one : {was is : List ℤ} → Fills monoStep (once toI8) 1 w m was r is
-      → Made F.ValidMono (F.monoFrame m) (record { mixer = r .mixer; pcm = getD is 0 (pos 0) })
+      → Made F.ValidMono (F.monoFrame m) (record { mixer = r .state; pcm = getD is 0 (pos 0) })
   unfolding after given
-  mono-one h = record { same = rw (h .content, h .mixer .same); valid = h .mixer .valid }
+  mono-one h = record { same = rw (h .content, h .state .same); valid = h .state .valid }
 
   pub duty-one : {was is : List ℕ} → Fills dutyStep duties 1 w m was r is
-      → Made F.ValidDuty (F.dutyFrame m) (record { mixer = r .mixer; duty = getD is 0 0 })
+      → Made F.ValidDuty (F.dutyFrame m) (record { mixer = r .state; duty = getD is 0 0 })
   unfolding after given
-  duty-one h = record { same = rw (h .content, h .mixer .same); valid = h .mixer .valid }
+  duty-one h = record { same = rw (h .content, h .state .same); valid = h .state .valid }
 
   pub stereo-one : {was is : List ℤ} → Fills stereoStep (sides toI8) 1 w m was r is
-      → Made F.ValidStereo (F.stereoFrame m) (record { mixer = r .mixer; left = getD is 0 (pos 0); right = getD is 1 (pos 0) })
+      → Made F.ValidStereo (F.stereoFrame m) (record { mixer = r .state; left = getD is 0 (pos 0); right = getD is 1 (pos 0) })
   unfolding after given
-  stereo-one h = record { same = rw (h .content, h .mixer .same); valid = h .mixer .valid }
+  stereo-one h = record { same = rw (h .content, h .state .same); valid = h .state .valid }

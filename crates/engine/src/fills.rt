@@ -1,4 +1,4 @@
-// The buffer calls.
+// The buffer calls: document 01's state, lifted to one of the present rules, makes its own frames.
 ghost use Rattle.buffers.specs.Buffers.{FillsAll, FillsPairs, toI8, toI16, toI32, toU12, toU16, once, doubled, sides};
 ghost use Rattle.buffers.specs.Shapes.{FillsBy, levelStep, levelOf};
 ghost use Rattle.frame.specs.Runs.{monoStep, dutyStep, duties, stereoStep};
@@ -8,6 +8,7 @@ ghost use Rattle.engine.specs.Fills.{filledIn};
 use crate::AudioEngine;
 use buffers::Level;
 use buffers::Shape;
+use marks::Present;
 
 // An engine after a buffer was filled, and how many cells were written.
 pub struct EngineFilled {
@@ -21,8 +22,9 @@ impl AudioEngine {
         ensures { λ r. ⌜ FillsBy toI8 shape (self .state) (now (out .entry)) (filledIn r) (now (out .exit)) ⌝ }
     {
         let m = self.state;
-        let f = buffers::fill_i8(m, shape, out);
-        let state = f.mixer;
+        let f = buffers::fill_i8(Present::lifted(m), shape, out);
+        let p = f.state;
+        let state = p.mixer;
         EngineFilled {
             engine: AudioEngine { state },
             filled: f.filled,
@@ -34,8 +36,9 @@ impl AudioEngine {
         ensures { λ r. ⌜ FillsBy toI16 shape (self .state) (now (out .entry)) (filledIn r) (now (out .exit)) ⌝ }
     {
         let m = self.state;
-        let f = buffers::fill_i16(m, shape, out);
-        let state = f.mixer;
+        let f = buffers::fill_i16(Present::lifted(m), shape, out);
+        let p = f.state;
+        let state = p.mixer;
         EngineFilled {
             engine: AudioEngine { state },
             filled: f.filled,
@@ -47,8 +50,9 @@ impl AudioEngine {
         ensures { λ r. ⌜ FillsBy toI32 shape (self .state) (now (out .entry)) (filledIn r) (now (out .exit)) ⌝ }
     {
         let m = self.state;
-        let f = buffers::fill_i32(m, shape, out);
-        let state = f.mixer;
+        let f = buffers::fill_i32(Present::lifted(m), shape, out);
+        let p = f.state;
+        let state = p.mixer;
         EngineFilled {
             engine: AudioEngine { state },
             filled: f.filled,
@@ -60,8 +64,9 @@ impl AudioEngine {
         ensures { λ r. ⌜ FillsBy raised shape (self .state) (now (out .entry)) (filledIn r) (now (out .exit)) ⌝ }
     {
         let m = self.state;
-        let f = buffers::fill_u8(m, shape, out);
-        let state = f.mixer;
+        let f = buffers::fill_u8(Present::lifted(m), shape, out);
+        let p = f.state;
+        let state = p.mixer;
         EngineFilled {
             engine: AudioEngine { state },
             filled: f.filled,
@@ -73,8 +78,9 @@ impl AudioEngine {
         ensures { λ r. ⌜ FillsAll (levelStep level) (levelOf level) (self .state) (now (out .entry)) (filledIn r) (now (out .exit)) ⌝ }
     {
         let m = self.state;
-        let f = buffers::fill_u16(m, level, out);
-        let state = f.mixer;
+        let f = buffers::fill_u16(Present::lifted(m), level, out);
+        let p = f.state;
+        let state = p.mixer;
         EngineFilled {
             engine: AudioEngine { state },
             filled: f.filled,

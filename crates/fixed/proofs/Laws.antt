@@ -1,15 +1,18 @@
 -- Laws of the definitions, by which callers and proofs bound what they give. Assumes nothing.
-use mathlib.Core.Path.{_≡_, refl, sym, subst}
+use mathlib.Core.Path.{_≡_, refl, sym, ap, subst}
+use mathlib.Core.Bool.{Bool, true, false, cond}
 use Prim.Native.Nat.{ℕ, zero, suc, _+_, _-_, _*_, _/_, _^_, _≤_, _<_}
-use native.Mathlib.Nat.{div-le-of-le-mul, mul-le-mul-left, le-trans, le-of-eq, le-antisymm, le-div-iff-mul-le, div-lt-iff-lt-mul, zero-div, mul-comm}
+use native.Mathlib.Nat.{div-le-of-le-mul, mul-le-mul-left, le-trans, le-of-eq, le-antisymm, le-div-iff-mul-le, div-lt-iff-lt-mul, zero-div, mul-comm, mul-le-mul, mul-div-cancel}
 use native.Mathlib.Omega.{arith}
+use lib.Dec.{eqb}
+use borrow.Author.Tests.{eqb-true, ne-eqb}
 use lib.IntN.{ℤ, pos, negsuc, negℤ, natAbs, subℕ, _+ℤ_, _-ℤ_, _*ℤ_, +ℤ-comm, +ℤ-idr, -ℤ-+ℤ-cancel}
 use lib.Signed.{quotZ, shrZ, mag}
-use mir.Syntax.{Width, w8, w32}
+use mir.Syntax.{Width, w8, w16, w32}
 use mir.Val.{Fits, SFits, hbits}
 use mir.Facts.{sfits-widen}
-use Rattle.laws.proofs.Signed.{abs≤, abs-fits, abs-quot, mul≤, add≤, sub≤, mag-shr, mag≤abs, sub-fits, sub-bounds, neg-quot}
-use Rattle.fixed.specs.Fixed.{toward}
+use Rattle.laws.proofs.Signed.{abs≤, abs-fits, abs-quot, mul≤, add≤, sub≤, mag-shr, mag≤abs, neg-fits, sub-fits, sub-bounds, neg-quot}
+use Rattle.fixed.specs.Fixed.{toward, gained, factorOf, gainedBy}
 
 -- k of n steps up from a, or down from a, stay within what a and the whole way fit
 module _ {w : Width} where
@@ -60,17 +63,53 @@ toward-fits a b t fa fb ft =
 
 -- each value on the way of a gain fits, and the last is a sample
 pub record Gained (s : ℤ) (g : ℕ) : Type 0 where
-  pub wide : SFits w32 s
-  pub gain : SFits w32 (pos g)
-  pub prod : SFits w32 (s *ℤ pos g)
-  pub down : SFits w32 (shrZ (s *ℤ pos g) 256)
+  pub wide : SFits w16 s
+  pub gain : SFits w16 (pos g)
+  pub prod : SFits w16 (s *ℤ pos g)
+  pub down : SFits w16 (shrZ (s *ℤ pos g) 256)
   pub byte : SFits w8 (shrZ (s *ℤ pos g) 256)
+  pub small : natAbs (shrZ (s *ℤ pos g) 256) ≤ 128
 
-pub gained-fits : (s : ℤ) (g : ℕ) → SFits w8 s → Fits w8 g → Gained s g
-gained-fits s g fs fg =
-    let p : natAbs (s *ℤ pos g) ≤ 32640 = mul≤ s (pos g) 128 255 (abs≤ fs) (omega arith) in
-    let r : SFits w8 (shrZ (s *ℤ pos g) 256) = record { sfits = omega (arith, mag-shr (s *ℤ pos g) 256, mag≤abs (s *ℤ pos g)) } in
-    record { wide = sfits-widen tt fs; gain = record { sfits = omega arith }; prod = abs-fits 32640 p tt; down = sfits-widen tt r; byte = r }
+product-fits : (s : ℤ) (g : ℕ) → SFits w8 s → g ≤ 256 → SFits w16 (s *ℤ pos g)
+product-fits (pos n) g f h = record { sfits = omega (arith, mul-le-mul {n₁ = n} {m₁ = g} {n₂ = 127} {m₂ = 256} (omega (arith, f .sfits)) h) }
+product-fits (negsuc n) g f h = neg-fits {n = suc n * g} {h = 32768} (mul-le-mul {n₁ = suc n} {m₁ = g} {n₂ = 128} {m₂ = 256} (omega (arith, f .sfits)) h) tt
+
+-- up to 256 parts of 256
+pub gained-fits : (s : ℤ) (g : ℕ) → SFits w8 s → g ≤ 256 → Gained s g
+gained-fits s g f h =
+    let p = product-fits s g f h in
+    let r : SFits w8 (shrZ (s *ℤ pos g) 256) = record { sfits = omega (arith, mag-shr (s *ℤ pos g) 256, p .sfits) } in
+    record { wide = sfits-widen tt f; gain = record { sfits = omega arith }; prod = p; down = sfits-widen tt r; byte = r; small = abs≤ r }
+
+-- ---- the two rules of gain 255
+-- document 01's is the gain itself
+pub factor-old : (g : ℕ) → factorOf false g ≡ g
+factor-old g = by-test (eqb g 255) refl
+  where
+    by-test : (t : Bool) → eqb g 255 ≡ t → cond t 255 g ≡ g
+    by-test true e = sym (eqb-true g 255 e)
+    by-test false e = refl
+
+pub gained-old : (s : ℤ) (g : ℕ) → gainedBy false s g ≡ gained s g
+gained-old s g = ap (gained s) (factor-old g)
+
+-- "0 to 254 are unchanged", under either
+pub factor-below : (whole : Bool) (g : ℕ) → g ≤ 254 → factorOf whole g ≡ g
+factor-below whole g h = rw (ne-eqb g 255 (λ e. omega arith))
+
+-- a factor is at most the whole
+pub factor-most : (whole : Bool) (g : ℕ) → g ≤ 255 → factorOf whole g ≤ 256
+factor-most whole g h = by-test (eqb g 255) whole
+  where
+    by-test : (t w : Bool) → cond t (cond w 256 255) g ≤ 256
+    by-test true true = omega arith
+    by-test true false = omega arith
+    by-test false w = omega arith
+
+-- 256 parts of 256 are the sample
+pub gained-whole : (s : ℤ) → gained s 256 ≡ s
+gained-whole (pos n) = ap pos (mul-div-cancel n (omega arith))
+gained-whole (negsuc n) = let e : suc n * 256 ≡ suc (n * 256 + 255) = omega arith in rw e (ap negsuc (omega arith))
 
 -- past an excess of room(room − 1) the knee's quotient is room − 1
 pub knee-top : (r e : ℕ) → suc r * r ≤ e → suc r * e / (e + suc r) ≡ r

@@ -1,6 +1,6 @@
 -- Phases, the sine, gain, interpolation, pan and the limiter, from document 01. Assumes nothing.
 use Prim.Native.Nat.{ℕ, suc, _+_, _-_, _*_, _/_, _%_, _^_}
-use mathlib.Core.Bool.{cond}
+use mathlib.Core.Bool.{Bool, cond}
 use lib.Dec.{leb, ltb, eqb}
 use lib.IntN.{ℤ, pos, negsuc, negℤ, _+ℤ_, _-ℤ_, _*ℤ_}
 use Rattle.laws.specs.Whole.{floorDiv, truncDiv}
@@ -33,6 +33,15 @@ toward a b t = a +ℤ truncDiv ((b -ℤ a) *ℤ pos t) 256
 -- "Gain: floor(sample × gain ÷ 256)"
 abbrev pub gained : ℤ → ℕ → ℤ
 gained s g = floorDiv (s *ℤ pos g) 256
+
+-- A rule is what gain 255 stands for: itself in document 01 (false), and 256, the whole sample, in document 02 (true): "Gain 255 shall
+-- hand the sample through; 0 to 254 are unchanged."
+abbrev pub factorOf : Bool → ℕ → ℕ
+factorOf whole g = cond (eqb g 255) (cond whole 256 255) g
+
+-- a gain by a rule
+abbrev pub gainedBy : Bool → ℤ → ℕ → ℤ
+gainedBy whole s g = gained s (factorOf whole g)
 
 -- "Pan gains, left and right: up to 128 (255, floor(pan × 255 ÷ 128)), above (floor((255 − pan) × 255 ÷ 127), 255)."
 abbrev pub panGains : ℕ → PanGains

@@ -5,7 +5,7 @@ ghost use lib.IntN.{pos};
 ghost use mir.Syntax.{w8};
 ghost use mir.Val.{toZ, ofZ};
 ghost use Rattle.laws.specs.Whole.{neg, heldTo};
-ghost use Rattle.fixed.specs.Fixed.{increment, indexOf, fractionOf, sine, toward, gained, panGains, knee, limited};
+ghost use Rattle.fixed.specs.Fixed.{increment, indexOf, fractionOf, sine, toward, gained, factorOf, gainedBy, panGains, knee, limited};
 
 mod floats;
 
@@ -103,10 +103,31 @@ pub fn mix_crossfade(a: i8, b: i8, t_q8: u8) -> i8
     lerp_i8(a, b, t_q8)
 }
 
+// What a gain stands for, of 256: under the rule `whole` 255 is all of it.
+pub fn gain_factor(gain_q8: u8, whole: bool) -> u16
+    ensures { λ r. ⌜ (r ≡ factorOf whole «gain_q8») × (r ≤ 256) ⌝ }
+{
+    if gain_q8 == 255 {
+        if whole { 256 } else { 255 }
+    } else {
+        gain_q8 as u16
+    }
+}
+
+pub fn apply_gain_by(sample: i8, gain_q8: u8, whole: bool) -> i8
+    ensures { λ r. ⌜ r ≡ gainedBy whole sample «gain_q8» ⌝ }
+{
+    if whole && gain_q8 == 255 {
+        return sample;
+    }
+    (((sample as i16) * (gain_q8 as i16)) >> 8) as i8
+}
+
+// Document 01's rule.
 pub fn apply_gain_q8(sample: i8, gain_q8: u8) -> i8
     ensures { λ r. ⌜ r ≡ gained sample «gain_q8» ⌝ }
 {
-    (((sample as i32) * (gain_q8 as i32)) >> 8) as i8
+    apply_gain_by(sample, gain_q8, false)
 }
 
 pub fn clamp_sample(v: i32) -> i8

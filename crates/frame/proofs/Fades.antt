@@ -9,14 +9,14 @@ use Rattle.laws.specs.Lists.{only}
 use Rattle.mixer.specs.Mixers.{Valid}
 use Rattle.mixer.specs.declared.Mixer.{Mixer}
 use Rattle.frame.specs.Fades.{advanced}
-use Rattle.frame.specs.Frames.{enveloped, sampled, monoFrame, stereoFrame}
+use Rattle.frame.specs.Frames.{enveloped, sampled, monoFrame, monoFrameBy, stereoFrame, stereoFrameBy}
 use Rattle.frame.specs.Lasting.{framesLeft, SameFade, Box, Step, frame, Lawful, afterAll, framesIn, unbroken}
 use Rattle.frame.specs.Runs.{framesAfter}
 use Rattle.frame.proofs.Lasting.{valid-moves, left-most, lasts}
 
 -- a frame of either kind advances the fade and does nothing else to it
 pub frame-fade : (k : Bool) (m : Mixer) → SameFade (cond k (stereoFrame m .mixer) (monoFrame m .mixer)) (advanced m)
-unfolding monoFrame stereoFrame sampled enveloped
+unfolding monoFrameBy stereoFrameBy sampled enveloped
 frame-fade true m = record { active = refl; t = refl; step = refl }
 frame-fade false m = record { active = refl; t = refl; step = refl }
 

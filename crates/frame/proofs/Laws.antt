@@ -17,8 +17,12 @@ use Rattle.mixer.proofs.Laws.{valid-voice}
 use Rattle.voice.specs.Voices as S
 use Rattle.voice.specs.declared.Voice.{Voice}
 use Rattle.voice.proofs.Laws as L
-use Rattle.frame.specs.Fades.{takenOver, voiceAt, fadeEnded, fadeAt, nextT, advanced}
-use Rattle.frame.specs.Frames.{enveloped, sampled, sampledCount, monoGiven, withMapper, monoFrame, stereoFrame}
+use Rattle.frame.specs.Fades.{takenOver, voiceAt, fadeEnded, fadeAt, nextT, advanced, marksEnded, marksAdvanced}
+use Rattle.frame.specs.Presents.{monoNext, dutyNext, stereoNext}
+use Rattle.frame.specs.Runs.{monoStep, dutyStep, stereoStep}
+use Rattle.marks.specs.Marks.{lifted}
+use Rattle.marks.specs.declared.Marks.{Marks}
+use Rattle.frame.specs.Frames.{enveloped, sampled, sampledCount, oldMarks, monoGiven, withMapper, monoFrame, monoFrameBy, stereoFrame, stereoFrameBy}
 
 -- the first k voices replaced by what f makes of them
 pub valid-mapped : {m : Mixer} (f : Voice → Voice) → ((v : Voice) → S.Valid v → S.Valid (f v)) → (k : ℕ) → k ≤ m .n → Valid m → Valid (withVoices m (mapFirst f k (m .voices)))
@@ -113,12 +117,12 @@ sampled-there {m} h = by-active (m .«crossfade_active») refl
     by-active true a = h .fade a .0
     by-active false a = omega arith
 
-pub valid-given : {m : Mixer} → Valid m → Valid (monoGiven m .mixer)
+pub valid-given : {m : Mixer} → Valid m → Valid (monoGiven oldMarks m .mixer)
 valid-given {m} h = valid-sampled (sampledCount m) (sampled-there h) h
 
 -- both frames
 pub valid-mono : {m : Mixer} → Valid m → Valid (monoFrame m .mixer)
-unfolding monoFrame
+unfolding monoFrameBy
 valid-mono h = valid-given (valid-enveloped (valid-advanced h))
 
 -- a valid mapper put in
@@ -138,5 +142,35 @@ valid-mapper p v h =
     }
 
 pub valid-stereo : {m : Mixer} → Valid m → Valid (stereoFrame m .mixer)
-unfolding stereoFrame
+unfolding stereoFrameBy
 valid-stereo {m} h = let b = valid-enveloped (valid-advanced h) in valid-sampled (enveloped (advanced m) .n) (omega arith) b
+
+-- ---- marks
+-- document 01's stay as they are
+pub marks-old : (m : Mixer) → marksAdvanced m oldMarks ≡ oldMarks
+unfolding marksAdvanced
+marks-old m = go (m .«crossfade_active») (eqb (nextT m) 255)
+  where
+    go : (a e : Bool) → cond a (cond e (marksEnded oldMarks) oldMarks) oldMarks ≡ oldMarks
+    go true true = refl
+    go true false = refl
+    go false e = refl
+
+-- no frame's state hangs on them
+pub mono-any : (k : Marks) (m : Mixer) → monoFrameBy k m .mixer ≡ monoStep m
+unfolding monoFrameBy
+mono-any k m = refl
+
+pub stereo-any : (k : Marks) (m : Mixer) → stereoFrameBy k m .mixer ≡ stereoStep m
+unfolding stereoFrameBy
+stereo-any k m = refl
+
+-- ---- the frames of a lifted state are document 01's
+pub mono-lifted : (m : Mixer) → monoNext (lifted m) ≡ lifted (monoStep m)
+mono-lifted m = rw (marks-old m)
+
+pub duty-lifted : (m : Mixer) → dutyNext (lifted m) ≡ lifted (dutyStep m)
+duty-lifted m = rw (marks-old m)
+
+pub stereo-lifted : (m : Mixer) → stereoNext (lifted m) ≡ lifted (stereoStep m)
+stereo-lifted m = rw (marks-old m)

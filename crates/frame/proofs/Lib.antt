@@ -4,8 +4,15 @@
 --     Fades    a frame of either kind advances the fade: frame-fade; a fade ends within 255 frames
 --     Silence  what is silent stays silent
 --     Voices   a frame of all voices is a frame of each: mono-framed, stereo-framed
+--     Alike    marks that differ at most beside inaudible voices
+--     Sized    what settling asks of a state
+--     Settling what stands beside an inaudible voice never shows: mono-still, duty-still, stereo-still
+pub mod Places
 pub mod Laws
 pub mod Lasting
 pub mod Fades
 pub mod Silence
 pub mod Voices
+pub mod Alike
+pub mod Sized
+pub mod Settling

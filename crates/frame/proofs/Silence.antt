@@ -14,19 +14,22 @@ use Rattle.envelope.specs.Adsrs as A
 use Rattle.fixed.specs.declared.Given.{Given}
 use Rattle.fixed.specs.declared.Given.the-variants as G
 use Rattle.laws.specs.Lists.{All, mapFirst}
+use Rattle.frame.specs.Places.{mapAt}
 use Rattle.laws.proofs.Lists.{all-set, all-get, all-map, all-imp, all-take, take-mapFirst, mapFirst-same}
 use Rattle.mixer.specs.Mixers.{Valid, voicesOf, withVoices}
 use Rattle.mixer.specs.declared.Mixer.{Mixer}
 use Rattle.voice.specs.Sources.{activeSource}
-use Rattle.voice.specs.Voices.{silentVoice, stoppedVoice, audible, tickedVoice, steppedVoice, stereoStep}
+use Rattle.voice.specs.Voices.{silentVoice, stoppedVoice, audible, tickedVoice, steppedVoice, sampleBy, pairBy}
 use Rattle.voice.specs.declared.source.VoiceSource.the-variants as S
 use Rattle.voice.specs.declared.StereoGiven.{StereoGiven}
 use Rattle.voice.specs.declared.StereoGiven.the-variants as P
 use Rattle.frame.proofs.Laws.{valid-advanced, valid-enveloped, sampled-there}
 use Rattle.voice.specs.declared.Voice.{Voice}
-use Rattle.voice.proofs.Laws.{or-false, ticked-silent, stepped-idle}
-use Rattle.frame.specs.Fades.{takenOver, voiceAt, fadeEnded, fadeAt, nextT, advanced}
-use Rattle.frame.specs.Frames.{enveloped, sampled, leveled, total, givenCount, averaged, crossed, sampleOf, sampledCount, monoMix, monoFrame, leftOf, rightOf, sideTotal, stereoFrame}
+use Rattle.voice.proofs.Laws.{or-false, ticked-silent, stepped-idle, sample-idle, pair-idle}
+use Rattle.frame.specs.Fades.{takenOver, voiceAt, fadeEnded, fadeAt, nextT, advanced, marksAdvanced}
+use Rattle.marks.specs.Marks.{ruleAt}
+use Rattle.marks.specs.declared.Marks.{Marks}
+use Rattle.frame.specs.Frames.{enveloped, sampled, leveled, total, givenCount, averaged, crossed, samplesOf, sampledCount, monoMix, monoFrame, monoFrameBy, leftOf, rightOf, sideTotal, stereoFrame, stereoFrameBy}
 
 abbrev Inaudible : Voice → Type 0
 Inaudible v = audible v ≡ false
@@ -86,55 +89,60 @@ same-sampled k m h a =
     (mapFirst-same (λ v. steppedVoice v .voice) k (m .voices)
     (all-imp Idle (λ v. steppedVoice v .voice ≡ v) (λ v i. stepped-idle v (i .1) .1) (take k (m .voices)) (all-take Idle k (m .n) (m .voices) h a)))
 
-no-sample : (l : List Voice) → All Idle l → (total (map sampleOf l) ≡ pos 0) × (givenCount (map sampleOf l) ≡ 0)
-unfolding total givenCount
-no-sample [] a = (refl, refl)
-no-sample (v ∷ l) a = rw (stepped-idle v (a .0 .1) .0) (no-sample l (a .1))
+module _ (r : Marks) where
+  no-sample : (i : ℕ) (l : List Voice) → All Idle l
+      → let gs = mapAt (λ i v. sampleBy (ruleAt r i) v) i l in (total gs ≡ pos 0) × (givenCount gs ≡ 0)
+  unfolding total givenCount mapAt
+  no-sample i [] a = (refl, refl)
+  no-sample i (v ∷ l) a = rw (sample-idle (ruleAt r i) v (a .0 .1)) (no-sample (suc i) l (a .1))
 
-no-mix : (m : Mixer) → (m .«crossfade_active» ≡ true → 2 ≤ m .n) → m .n ≤ length (m .voices) → All Idle (voicesOf m) → monoMix m ≡ pos 0
-unfolding monoMix averaged crossed
-no-mix m h k a = by-active (m .«crossfade_active») refl
-  where
-    idle : (i : ℕ) → i < m .n → sampleOf (voiceAt m i) ≡ G.None
-    idle i l =
-        let e : length (voicesOf m) ≡ m .n = length-take-le (m .n) (m .voices) k in
-        let v : Idle (voiceAt m i) = rw (← getD-take (m .n) (m .voices) i (silentVoice 0) l) (all-get Idle (voicesOf m) i (silentVoice 0) a (omega arith)) in
-        stepped-idle (voiceAt m i) (v .1) .0
+  no-mix : (m : Mixer) → (m .«crossfade_active» ≡ true → 2 ≤ m .n) → m .n ≤ length (m .voices) → All Idle (voicesOf m) → monoMix r m ≡ pos 0
+  unfolding monoMix averaged crossed
+  no-mix m h k a = by-active (m .«crossfade_active») refl
+    where
+      idle : (i : ℕ) (w : Bool) → i < m .n → sampleBy w (voiceAt m i) ≡ G.None
+      idle i w l =
+          let e : length (voicesOf m) ≡ m .n = length-take-le (m .n) (m .voices) k in
+          let v : Idle (voiceAt m i) = rw (← getD-take (m .n) (m .voices) i (silentVoice 0) l) (all-get Idle (voicesOf m) i (silentVoice 0) a (omega arith)) in
+          sample-idle w (voiceAt m i) (v .1)
 
-    by-active : (b : Bool) → m .«crossfade_active» ≡ b
-        → cond b (crossed (m .«crossfade_t_q8») (sampleOf (voiceAt m 0)) (sampleOf (voiceAt m 1))) (averaged (map sampleOf (voicesOf m))) ≡ pos 0
-    by-active true e = let n = h e in rw (idle 0 (omega arith), idle 1 (omega arith))
-    by-active false e = rw (no-sample (voicesOf m) a .1, no-sample (voicesOf m) a .0)
+      by-active : (b : Bool) → m .«crossfade_active» ≡ b
+          → cond b (crossed (m .«crossfade_t_q8») (sampleBy (ruleAt r 0) (voiceAt m 0)) (sampleBy (ruleAt r 1) (voiceAt m 1))) (averaged (samplesOf r (voicesOf m))) ≡ pos 0
+      by-active true e = let n = h e in rw (idle 0 (ruleAt r 0) (omega arith), idle 1 (ruleAt r 1) (omega arith))
+      by-active false e = rw (no-sample 0 (voicesOf m) a .1, no-sample 0 (voicesOf m) a .0)
 
-silent-level : (m : Mixer) → leveled m (pos 0) ≡ pos 0
-silent-level m = rw zero-mul
+  silent-level : (m : Mixer) → leveled r m (pos 0) ≡ pos 0
+  silent-level m = rw zero-mul
+
+  no-side : (side : StereoGiven → ℤ) → side P.None ≡ pos 0 → (i : ℕ) (l : List Voice) → All Idle l
+      → sideTotal side (mapAt (λ i v. pairBy (ruleAt r i) v) i l) ≡ pos 0
+  unfolding sideTotal mapAt
+  no-side side z i [] a = refl
+  no-side side z i (v ∷ l) a = rw (pair-idle (ruleAt r i) v (a .0 .1), z, no-side side z (suc i) l (a .1))
 
 idle-silent : (m : Mixer) → All Idle (voicesOf m) → Silent m
 idle-silent m a = all-imp Idle Inaudible (λ v i. i .0) (voicesOf m) a
 
-no-side : (side : StereoGiven → ℤ) → side P.None ≡ pos 0 → (l : List Voice) → All Idle l → sideTotal side l ≡ pos 0
-unfolding sideTotal stereoStep
-no-side side z [] a = refl
-no-side side z (v ∷ l) a = rw (stepped-idle v (a .0 .1) .0, z, no-side side z l (a .1))
-
--- a mono frame of a silent state is 0 and leaves it silent
-pub mono-silent : (m : Mixer) → Valid m → Silent m → (monoFrame m .pcm ≡ pos 0) × Silent (monoFrame m .mixer)
-unfolding monoFrame
-mono-silent m h s =
+-- a mono frame of a silent state is 0 and leaves it silent, whatever the marks
+pub mono-silent : (r : Marks) (m : Mixer) → Valid m → Silent m → (monoFrameBy r m .pcm ≡ pos 0) × Silent (monoFrameBy r m .mixer)
+unfolding monoFrameBy
+mono-silent r m h s =
     let v = valid-enveloped (valid-advanced h) in
     let b = enveloped (advanced m) in
+    let q = marksAdvanced m r in
     let a = envelope-silent (advanced m) (advance-silent m h s) in
     let full : b .n ≤ length (b .voices) = omega (arith, v .few, v .full) in
-    (rw (no-mix b (λ e. v .fade e .0) full a) (silent-level b), rw (same-sampled (sampledCount b) b (sampled-there v) a) (idle-silent b a))
+    (rw (no-mix q b (λ e. v .fade e .0) full a) (silent-level q b), rw (same-sampled (sampledCount b) b (sampled-there v) a) (idle-silent b a))
 
 -- and so is a stereo frame
-pub stereo-silent : (m : Mixer) → Valid m → Silent m
-    → (stereoFrame m .left ≡ pos 0) × (stereoFrame m .right ≡ pos 0) × Silent (stereoFrame m .mixer)
-unfolding stereoFrame
-stereo-silent m h s =
+pub stereo-silent : (r : Marks) (m : Mixer) → Valid m → Silent m
+    → (stereoFrameBy r m .left ≡ pos 0) × (stereoFrameBy r m .right ≡ pos 0) × Silent (stereoFrameBy r m .mixer)
+unfolding stereoFrameBy
+stereo-silent r m h s =
     let b = enveloped (advanced m) in
+    let q = marksAdvanced m r in
     let a = envelope-silent (advanced m) (advance-silent m h s) in (
-      rw (no-side leftOf refl (voicesOf b) a) (silent-level b),
-      rw (no-side rightOf refl (voicesOf b) a) (silent-level b),
+      rw (no-side q leftOf refl 0 (voicesOf b) a) (silent-level q b),
+      rw (no-side q rightOf refl 0 (voicesOf b) a) (silent-level q b),
       rw (same-sampled (b .n) b (omega arith) a) (idle-silent b a),
     )

@@ -15,7 +15,7 @@ use Rattle.voice.specs.Voices.{silentVoice, tickedVoice, steppedVoice}
 use Rattle.voice.specs.Rests.{framed}
 use Rattle.voice.specs.declared.Voice.{Voice}
 use Rattle.frame.specs.Fades.{voiceAt, fadeEnded, fadeAt, nextT, advanced}
-use Rattle.frame.specs.Frames.{enveloped, sampled, sampledCount, monoFrame, stereoFrame}
+use Rattle.frame.specs.Frames.{enveloped, sampled, sampledCount, monoFrame, monoFrameBy, stereoFrame, stereoFrameBy}
 use Rattle.frame.proofs.Laws.{valid-advanced}
 
 -- ---- the first n of a list
@@ -69,11 +69,11 @@ module _ {m : Mixer} (h : Valid m) (i : ℕ) (l : i < m .n) where
 
   -- each voice, after the fade's advance, has a frame; in a fade only voices 0 and 1 are sampled
   pub mono-framed : voiceAt (monoFrame m .mixer) i ≡ framed (ltb i (sampledCount (advanced m))) (voiceAt (advanced m) i)
-  unfolding monoFrame enveloped
+  unfolding monoFrameBy enveloped
   mono-framed = framed-at (advanced m) (sampledCount (advanced m)) i (there .0) (there .1)
 
   pub stereo-framed : voiceAt (stereoFrame m .mixer) i ≡ framed true (voiceAt (advanced m) i)
-  unfolding stereoFrame enveloped
+  unfolding stereoFrameBy enveloped
   stereo-framed =
       framed-at (advanced m) (advanced m .n) i (there .0) (there .1)
       ∙ ap (λ (b : Bool). framed b (voiceAt (advanced m) i)) (lt-ltb i (advanced m .n) (there .0))

@@ -6,6 +6,8 @@ use lib.ListN.{getD, set}
 use Rattle.mixer.specs.declared.Mixer.{Mixer}
 use Rattle.voice.specs.Voices.{silentVoice, stoppedVoice}
 use Rattle.voice.specs.declared.Voice.{Voice}
+use Rattle.marks.specs.Marks.{nothing, markedAt}
+use Rattle.marks.specs.declared.Marks.{Marks}
 
 -- "voice 0 gets voice 1's source, gain, priority and pan, but an idle envelope at level 0"
 unfoldable pub takenOver : Voice → Voice → Voice
@@ -55,6 +57,13 @@ fadeAt m t =
 -- "t saturates at 255."
 abbrev pub nextT : Mixer → ℕ
 nextT m = min 255 (m .«crossfade_t_q8» + m .«crossfade_step_q8»)
+
+-- "At a fade's end that rule goes with the source." (document 02)
+abbrev pub marksEnded : Marks → Marks
+marksEnded k = markedAt 0 (getD (k .voices) 1 nothing) k
+
+unfoldable pub marksAdvanced : Mixer → Marks → Marks
+marksAdvanced m k = cond (m .«crossfade_active») (cond (eqb (nextT m) 255) (marksEnded k) k) k
 
 -- "advance the fade"
 unfoldable pub advanced : Mixer → Mixer

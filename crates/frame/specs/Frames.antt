@@ -1,24 +1,27 @@
 -- One mono frame, its duty, and one stereo frame. Assumes nothing.
 use Prim.Native.Nat.{ℕ, suc}
-use mathlib.Core.Bool.{Bool, cond}
-use mathlib.Core.List.{List, [], _∷_, map}
+use mathlib.Core.Bool.{false, cond}
+use mathlib.Core.List.{List, [], _∷_}
 use lib.Dec.{ltb}
 use lib.IntN.{ℤ, pos, _+ℤ_}
 use lib.ListN.{take}
-use Rattle.fixed.specs.Fixed.{toward, gained, limited}
+use Rattle.fixed.specs.Fixed.{toward, gainedBy, limited}
 use Rattle.fixed.specs.declared.Given.{Given}
 use Rattle.fixed.specs.declared.Given.the-variants as G
 use Rattle.laws.specs.Lists.{mapFirst}
+use Rattle.frame.specs.Places.{mapAt}
 use Rattle.laws.specs.Whole.{truncDiv}
 use Rattle.mixer.specs.Mixers.{Valid, voicesOf, withVoices}
 use Rattle.mixer.specs.declared.Mixer.{Mixer}
 use Rattle.output.specs.Duty.{mapped}
 use Rattle.output.specs.declared.PwmMapper.{PwmMapper}
-use Rattle.voice.specs.Voices.{tickedVoice, steppedVoice, stereoStep}
+use Rattle.voice.specs.Voices.{tickedVoice, steppedVoice, sampleBy, pairBy}
 use Rattle.voice.specs.declared.StereoGiven.{StereoGiven}
 use Rattle.voice.specs.declared.StereoGiven.the-variants as P
 use Rattle.voice.specs.declared.Voice.{Voice}
-use Rattle.frame.specs.Fades.{advanced, voiceAt}
+use Rattle.frame.specs.Fades.{advanced, voiceAt, marksAdvanced}
+use Rattle.marks.specs.Marks.{noMarks, ruleAt}
+use Rattle.marks.specs.declared.Marks.{Marks}
 use Rattle.frame.specs.declared.MonoFrame.{MonoFrame}
 use Rattle.frame.specs.declared.StereoFrame.{StereoFrame}
 use Rattle.frame.specs.declared.DutyFrame.{DutyFrame}
@@ -31,9 +34,13 @@ enveloped m = withVoices m (mapFirst tickedVoice (m .n) (m .voices))
 unfoldable pub sampled : ℕ → Mixer → Mixer
 sampled k m = withVoices m (mapFirst (λ v. steppedVoice v .voice) k (m .voices))
 
+-- document 01's rule of gain 255, for each voice and the master
+abbrev pub oldMarks : Marks
+oldMarks = noMarks false
+
 -- "limit, apply master gain"
-abbrev pub leveled : Mixer → ℤ → ℤ
-leveled m sum = gained (limited sum) (m .config .«master_gain_q8»)
+abbrev pub leveled : Marks → Mixer → ℤ → ℤ
+leveled r m sum = gainedBy (r .master) (limited sum) (m .config .«master_gain_q8»)
 
 -- ---- mono
 
@@ -59,26 +66,31 @@ crossed t (G.Sample a) G.None = a
 crossed t G.None (G.Sample b) = b
 crossed t G.None G.None = pos 0
 
-abbrev pub sampleOf : Voice → Given
-sampleOf v = steppedVoice v .given
+-- voices' samples, each by the rule of its place
+abbrev pub samplesOf : Marks → List Voice → List Given
+samplesOf r vs = mapAt (λ i v. sampleBy (ruleAt r i) v) 0 vs
 
 -- "During a fade only voices 0 and 1 are sampled"
 abbrev pub sampledCount : Mixer → ℕ
 sampledCount m = cond (m .«crossfade_active») 2 (m .n)
 
-unfoldable pub monoMix : Mixer → ℤ
-monoMix m =
+unfoldable pub monoMix : Marks → Mixer → ℤ
+monoMix r m =
     cond (m .«crossfade_active»)
-    (crossed (m .«crossfade_t_q8») (sampleOf (voiceAt m 0)) (sampleOf (voiceAt m 1)))
-    (averaged (map sampleOf (voicesOf m)))
+    (crossed (m .«crossfade_t_q8») (sampleBy (ruleAt r 0) (voiceAt m 0)) (sampleBy (ruleAt r 1) (voiceAt m 1)))
+    (averaged (samplesOf r (voicesOf m)))
 
 -- "take samples, limit, apply master gain"
-abbrev pub monoGiven : Mixer → MonoFrame
-monoGiven m = record { mixer = sampled (sampledCount m) m; pcm = leveled m (monoMix m) }
+abbrev pub monoGiven : Marks → Mixer → MonoFrame
+monoGiven r m = record { mixer = sampled (sampledCount m) m; pcm = leveled r m (monoMix r m) }
 
 -- "Every mono frame: advance the fade, tick all envelopes .., take samples, limit, apply master gain."
-unfoldable pub monoFrame : Mixer → MonoFrame
-monoFrame m = monoGiven (enveloped (advanced m))
+unfoldable pub monoFrameBy : Marks → Mixer → MonoFrame
+monoFrameBy r m = monoGiven (marksAdvanced m r) (enveloped (advanced m))
+
+-- document 01's
+abbrev pub monoFrame : Mixer → MonoFrame
+monoFrame m = monoFrameBy oldMarks m
 
 -- m with another mapper
 abbrev pub withMapper : Mixer → PwmMapper → Mixer
@@ -96,11 +108,15 @@ withMapper m mapper =
     }
 
 -- the duty of a mono frame's sample: the mapper takes it
-unfoldable pub dutyFrame : Mixer → DutyFrame
-dutyFrame m =
-    let f = monoFrame m in
+unfoldable pub dutyFrameBy : Marks → Mixer → DutyFrame
+dutyFrameBy r m =
+    let f = monoFrameBy r m in
     let d = mapped (f .mixer .mapper) (f .pcm) (f .mixer .config .«pwm_period») in
     record { mixer = withMapper (f .mixer) (d .mapper); duty = d .duty }
+
+-- document 01's
+abbrev pub dutyFrame : Mixer → DutyFrame
+dutyFrame m = dutyFrameBy oldMarks m
 
 abbrev pub ValidMono : MonoFrame → Type 0
 ValidMono f = Valid (f .mixer)
@@ -122,16 +138,26 @@ rightOf (P.Pair l r) = r
 rightOf P.None = pos 0
 
 -- the sum of a side over the voices, undivided
-unfoldable pub sideTotal : (StereoGiven → ℤ) → List Voice → ℤ
+unfoldable pub sideTotal : (StereoGiven → ℤ) → List StereoGiven → ℤ
 sideTotal side [] = pos 0
-sideTotal side (v ∷ vs) = side (stereoStep v .given) +ℤ sideTotal side vs
+sideTotal side (g ∷ gs) = side g +ℤ sideTotal side gs
+
+-- voices' samples on both sides, each by the rule of its place
+abbrev pub pairsOf : Marks → List Voice → List StereoGiven
+pairsOf r vs = mapAt (λ i v. pairBy (ruleAt r i) v) 0 vs
+
+abbrev pub stereoGiven : Marks → Mixer → StereoFrame
+stereoGiven r m =
+    record {
+      mixer = sampled (m .n) m;
+      left = leveled r m (sideTotal leftOf (pairsOf r (voicesOf m)));
+      right = leveled r m (sideTotal rightOf (pairsOf r (voicesOf m)));
+    }
 
 -- "Stereo goes through the same steps but ignores t and sums all voices undivided, after pan; each side is limited, given master gain"
-unfoldable pub stereoFrame : Mixer → StereoFrame
-stereoFrame m =
-    let b = enveloped (advanced m) in
-    record {
-      mixer = sampled (b .n) b;
-      left = leveled b (sideTotal leftOf (voicesOf b));
-      right = leveled b (sideTotal rightOf (voicesOf b));
-    }
+unfoldable pub stereoFrameBy : Marks → Mixer → StereoFrame
+stereoFrameBy r m = stereoGiven (marksAdvanced m r) (enveloped (advanced m))
+
+-- document 01's
+abbrev pub stereoFrame : Mixer → StereoFrame
+stereoFrame m = stereoFrameBy oldMarks m

@@ -1,9 +1,13 @@
 -- What a reader believes of a frame, from document 01, "Mixing, fade, duty".
+--     Places    a list's elements, each with its place
 --     Fades     the fade's advance and end
 --     Frames    one mono frame, one stereo frame
 --     Runs      frames one after another
+--     Presents  frames of a box of the present rules
 --     Lasting   how long a fade takes
+pub mod Places
 pub mod Fades
 pub mod Frames
 pub mod Runs
+pub mod Presents
 pub mod Lasting

@@ -2,16 +2,11 @@
 use Prim.Native.Nat.{ℕ}
 use mathlib.Core.Bool.{Bool, cond}
 use mathlib.Core.List.{List, [], _∷_}
-use lib.IntN.{ℤ}
 use Rattle.mixer.specs.declared.Mixer.{Mixer}
 use Rattle.frame.specs.Frames.{monoFrame, dutyFrame, stereoFrame}
 
--- a mono frame gives one sample
 abbrev pub monoStep : Mixer → Mixer
 monoStep m = monoFrame m .mixer
-
-abbrev pub monoSamples : Mixer → List ℤ
-monoSamples m = monoFrame m .pcm ∷ []
 
 abbrev pub dutyStep : Mixer → Mixer
 dutyStep m = dutyFrame m .mixer

@@ -2,7 +2,7 @@
 // line does is `replay_session`'s, what it sounds like is `render_sounds`', what is told of it is `render_account`'s, and how a file is laid out is `wav`'s.
 mod file;
 mod problems;
-mod steps;
+mod runs;
 
 ghost use Prim.Native.Nat.{_≤_};
 ghost use mathlib.Core.Path.{_≡_};
@@ -12,11 +12,11 @@ use file::flushed;
 use file::write_header;
 use render_texts::Clock;
 use replay_session::Session;
-use steps::Place;
-use steps::Run;
-use steps::print;
-use steps::rate_of;
-use steps::read_some;
+use runs::Place;
+use runs::Run;
+use runs::print;
+use runs::rate_of;
+use runs::read_some;
 
 // The script's descriptor, or -1 where it cannot be opened: the second argument's, or else standard input.
 fn script() -> i32 {

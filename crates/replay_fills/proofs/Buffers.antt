@@ -69,7 +69,7 @@ module _ {A : Type 0} (text : A → List ℕ) (w : ℕ) (sized : (x : A) → len
       let all = numbered-all text 4 (r .filled) w sized (take n (part ++ drop n cells)) room t in
       record {
         laid = rw (f .count, back-same b, f .content, lent-blank (b .lent)) at all;
-        engine = record { same = ap boxed (f .mixer .same); valid = record { inside = f .mixer .valid } };
+        engine = record { same = ap boxed (f .state .same); valid = record { inside = f .state .valid } };
       }
 
   pub singly-shown : (step : Mixer → Mixer) (gives : Mixer → List A) {blank : A} {n : ℕ} {m : Mixer} {r : EngineFilled} {cells part : List A} {before after : List ℕ} {len : ℕ}

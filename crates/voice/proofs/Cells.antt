@@ -3,7 +3,7 @@ use Prim.Native.Nat.{ℕ, zero, suc, _+_, _≤_, _<_}
 use native.Mathlib.Numerals.{add-one}
 use native.Mathlib.Omega.{arith}
 use mathlib.Core.Path.{_≡_, refl, sym, ap, _∙_}
-use mathlib.Core.Bool.{false, cond, _||_}
+use mathlib.Core.Bool.{Bool, false, cond, _||_}
 use mathlib.Core.List.{List, [], _∷_, _++_}
 use lib.Dec.{leb}
 use lib.IntN.{ℤ}
@@ -16,7 +16,7 @@ use Rattle.envelope.specs.Blocks.{levelAfter}
 use Rattle.laws.proofs.Stores.{length-cells}
 use Rattle.fixed.specs.declared.Given.{Given}
 use Rattle.fixed.specs.declared.Given.the-variants as G
-use Rattle.fixed.specs.Fixed.{gained}
+use Rattle.fixed.specs.Fixed.{gainedBy}
 use Rattle.fixed.specs.Answers.{heard, Stops, Filled}
 use Rattle.voice.specs.Sources.{activeSource}
 use Rattle.voice.specs.Voices.{Valid, sounding}
@@ -42,70 +42,70 @@ module _ (s : VoiceSource) (a : Adsr) where
   sounded-at (suc n) h = rw (lasts n s (activeSource s) refl)
 
 -- ---- shaped cells
-length-shaped : (gain : ℕ) (gs : List Given) (ls : List ℕ) → length gs ≤ length ls → length (heard (shapedAnswers gain gs ls)) ≡ length (heard gs)
+length-shaped : (whole : Bool) (gain : ℕ) (gs : List Given) (ls : List ℕ) → length gs ≤ length ls → length (heard (shapedAnswers whole gain gs ls)) ≡ length (heard gs)
 unfolding heard shapedAnswers
-length-shaped gain [] ls h = refl
-length-shaped gain (g ∷ gs) [] h = absurd (omega arith)
-length-shaped gain (G.Sample x ∷ gs) (l ∷ ls) h = ap suc (length-shaped gain gs ls (omega arith))
-length-shaped gain (G.None ∷ gs) (l ∷ ls) h = length-shaped gain gs ls (omega arith)
+length-shaped whole gain [] ls h = refl
+length-shaped whole gain (g ∷ gs) [] h = absurd (omega arith)
+length-shaped whole gain (G.Sample x ∷ gs) (l ∷ ls) h = ap suc (length-shaped whole gain gs ls (omega arith))
+length-shaped whole gain (G.None ∷ gs) (l ∷ ls) h = length-shaped whole gain gs ls (omega arith)
 
-cells-shaped : (gain : ℕ) (gs : List Given) (ls : List ℕ) (rest : List ℤ) (more : List ℕ) → Stops gs → length gs ≤ length ls
-    → shapedFirst gain (length (heard gs)) (heard gs ++ rest) (ls ++ more) ≡ heard (shapedAnswers gain gs ls) ++ rest
+cells-shaped : (whole : Bool) (gain : ℕ) (gs : List Given) (ls : List ℕ) (rest : List ℤ) (more : List ℕ) → Stops gs → length gs ≤ length ls
+    → shapedFirst whole gain (length (heard gs)) (heard gs ++ rest) (ls ++ more) ≡ heard (shapedAnswers whole gain gs ls) ++ rest
 unfolding heard shapedAnswers shapedFirst
-cells-shaped gain [] ls rest more s h = refl
-cells-shaped gain (g ∷ gs) [] rest more s h = absurd (omega arith)
-cells-shaped gain (G.Sample x ∷ gs) (l ∷ ls) rest more s h =
-    ap (λ (xs : List ℤ). gained (gained x l) gain ∷ xs) (cells-shaped gain gs ls rest more s (omega arith))
-cells-shaped gain (G.None ∷ gs) (l ∷ ls) rest more s h = rw (none-shaped gain gs ls s, s)
+cells-shaped whole gain [] ls rest more s h = refl
+cells-shaped whole gain (g ∷ gs) [] rest more s h = absurd (omega arith)
+cells-shaped whole gain (G.Sample x ∷ gs) (l ∷ ls) rest more s h =
+    ap (λ (xs : List ℤ). gainedBy whole (gainedBy whole x l) gain ∷ xs) (cells-shaped whole gain gs ls rest more s (omega arith))
+cells-shaped whole gain (G.None ∷ gs) (l ∷ ls) rest more s h = rw (none-shaped whole gain gs ls s, s)
 
 -- a source's block, its first cells shaped, is the voice's
-filled-shaped : (gain : ℕ) (gs : List Given) (ls more : List ℕ) (cells filled : List ℤ) (n : ℕ) → Stops gs → length gs ≤ length ls
-    → Filled gs cells n filled → Filled (shapedAnswers gain gs ls) cells n (shapedFirst gain n filled (ls ++ more))
-filled-shaped gain gs ls more cells filled n s h f =
+filled-shaped : (whole : Bool) (gain : ℕ) (gs : List Given) (ls more : List ℕ) (cells filled : List ℤ) (n : ℕ) → Stops gs → length gs ≤ length ls
+    → Filled gs cells n filled → Filled (shapedAnswers whole gain gs ls) cells n (shapedFirst whole gain n filled (ls ++ more))
+filled-shaped whole gain gs ls more cells filled n s h f =
     record {
-      count = f .count ∙ sym (length-shaped gain gs ls h);
-      taken = rw (f .count, f .taken, length-shaped gain gs ls h) (cells-shaped gain gs ls (drop (length (heard gs)) cells) more s h);
+      count = f .count ∙ sym (length-shaped whole gain gs ls h);
+      taken = rw (f .count, f .taken, length-shaped whole gain gs ls h) (cells-shaped whole gain gs ls (drop (length (heard gs)) cells) more s h);
     }
 
 levels-cover : (n : ℕ) (s : VoiceSource) (a : Adsr) → length (sourceRun n s) ≤ length (given A.ticked levelAfter n a)
 levels-cover n s a = omega (arith, length-run n s, length-cells A.ticked (λ a. A.ticked a .«level_q8») n a)
 
 -- the parts of a block, put together
-module _ {n : ℕ} (v : Voice) {cells filled : List ℤ} {f : SourceFilled} (h : SourceBlock (v .source) n cells f filled) where
+module _ {n : ℕ} (whole : Bool) (v : Voice) {cells filled : List ℤ} {f : SourceFilled} (h : SourceBlock (v .source) n cells f filled) where
   block-voice : {next : VoiceSource} {adsr : Adsr} → 0 < n → adsr ≡ after A.ticked n (v .adsr)
       → next ≡ kept (cond (activeSource (v .source)) (leb n (f .given + 1)) false || A.active adsr) (f .source)
       → sounding v next adsr ≡ after voiceStep n v
   block-voice k a e = rw (e, h .source, h .given .count, a, ← sounded-at (v .source) (v .adsr) n k) (sym (voice-after n v))
 
   block-cells : {levels : List ℕ} (more : List ℕ) → levels ≡ given A.ticked levelAfter n (v .adsr) ++ more
-      → Filled (voiceRun n v) cells (f .given) (shapedFirst (v .«gain_q8») (f .given) filled levels)
+      → Filled (voiceRun whole n v) cells (f .given) (shapedFirst whole (v .«gain_q8») (f .given) filled levels)
   block-cells more e =
       let s = v .source in
-      rw (e, voice-run n v)
-      (filled-shaped (v .«gain_q8») (sourceRun n s) (given A.ticked levelAfter n (v .adsr)) more cells filled (f .given) (source-stops n s) (levels-cover n s (v .adsr)) (h .given))
+      rw (e, voice-run whole n v)
+      (filled-shaped whole (v .«gain_q8») (sourceRun n s) (given A.ticked levelAfter n (v .adsr)) more cells filled (f .given) (source-stops n s) (levels-cover n s (v .adsr)) (h .given))
 
   pub voice-block : {next : VoiceSource} {adsr : Adsr} {levels : List ℕ} (more : List ℕ) → Valid v → 0 < n → adsr ≡ after A.ticked n (v .adsr)
       → next ≡ kept (cond (activeSource (v .source)) (leb n (f .given + 1)) false || A.active adsr) (f .source)
       → levels ≡ given A.ticked levelAfter n (v .adsr) ++ more
-      → VoiceBlock v n cells (record { voice = sounding v next adsr; given = f .given }) (shapedFirst (v .«gain_q8») (f .given) filled levels)
+      → VoiceBlock whole v n cells (record { voice = sounding v next adsr; given = f .given }) (shapedFirst whole (v .«gain_q8») (f .given) filled levels)
   voice-block more p k a e l = record { voice = made (block-voice k a e) (valid-frames n v p); given = block-cells more l }
 
 -- no frame
-pub empty-block : (v : Voice) (cells : List ℤ) → Valid v → VoiceBlock v 0 cells (record { voice = v; given = 0 }) cells
+pub empty-block : (whole : Bool) (v : Voice) (cells : List ℤ) → Valid v → VoiceBlock whole v 0 cells (record { voice = v; given = 0 }) cells
 unfolding after given heard
-empty-block v cells p = record { voice = made refl p; given = record { count = refl; taken = refl } }
+empty-block whole v cells p = record { voice = made refl p; given = record { count = refl; taken = refl } }
 
 -- a turn of the loop over the cells
-shaped-suc : (gain n : ℕ) (xs : List ℤ) (ls : List ℕ) (d : ℤ)
-    → set (shapedFirst gain n xs ls) n (gained (gained (getD (shapedFirst gain n xs ls) n d) (getD ls n 0)) gain) ≡ shapedFirst gain (suc n) xs ls
+shaped-suc : (whole : Bool) (gain n : ℕ) (xs : List ℤ) (ls : List ℕ) (d : ℤ)
+    → set (shapedFirst whole gain n xs ls) n (gainedBy whole (gainedBy whole (getD (shapedFirst whole gain n xs ls) n d) (getD ls n 0)) gain) ≡ shapedFirst whole gain (suc n) xs ls
 unfolding shapedFirst
-shaped-suc gain zero [] ls d = refl
-shaped-suc gain (suc n) [] ls d = refl
-shaped-suc gain zero (x ∷ xs) [] d = refl
-shaped-suc gain (suc n) (x ∷ xs) [] d = ap (λ (r : List ℤ). gained (gained x 0) gain ∷ r) (shaped-suc gain n xs [] d)
-shaped-suc gain zero (x ∷ xs) (l ∷ ls) d = refl
-shaped-suc gain (suc n) (x ∷ xs) (l ∷ ls) d = ap (λ (r : List ℤ). gained (gained x l) gain ∷ r) (shaped-suc gain n xs ls d)
+shaped-suc whole gain zero [] ls d = refl
+shaped-suc whole gain (suc n) [] ls d = refl
+shaped-suc whole gain zero (x ∷ xs) [] d = refl
+shaped-suc whole gain (suc n) (x ∷ xs) [] d = ap (λ (r : List ℤ). gainedBy whole (gainedBy whole x 0) gain ∷ r) (shaped-suc whole gain n xs [] d)
+shaped-suc whole gain zero (x ∷ xs) (l ∷ ls) d = refl
+shaped-suc whole gain (suc n) (x ∷ xs) (l ∷ ls) d = ap (λ (r : List ℤ). gainedBy whole (gainedBy whole x l) gain ∷ r) (shaped-suc whole gain n xs ls d)
 
-pub shaped-step : (gain n : ℕ) (xs : List ℤ) (ls : List ℕ) (d : ℤ)
-    → set (shapedFirst gain n xs ls) n (gained (gained (getD (shapedFirst gain n xs ls) n d) (getD ls n 0)) gain) ≡ shapedFirst gain (n + 1) xs ls
-shaped-step gain n xs ls d = rw add-one (shaped-suc gain n xs ls d)
+pub shaped-step : (whole : Bool) (gain n : ℕ) (xs : List ℤ) (ls : List ℕ) (d : ℤ)
+    → set (shapedFirst whole gain n xs ls) n (gainedBy whole (gainedBy whole (getD (shapedFirst whole gain n xs ls) n d) (getD ls n 0)) gain) ≡ shapedFirst whole gain (n + 1) xs ls
+shaped-step whole gain n xs ls d = rw add-one (shaped-suc whole gain n xs ls d)

@@ -5,18 +5,22 @@ use Prim.Native.Nat.{ℕ, _≤_}
 use Rattle.envelope.specs.declared.Adsr.{Adsr}
 use Rattle.envelope.specs.declared.AdsrSpec.{AdsrSpec}
 use Rattle.envelope.specs.Adsrs as A
+use Rattle.fixed.specs.declared.Given.{Given}
 use Rattle.fixed.specs.declared.Given.the-variants as G
+use Rattle.fixed.specs.Fixed.{gained, gainedBy, panGains}
+use Rattle.fixed.proofs.Laws.{gained-old}
 use Rattle.laws.proofs.Bools.{never}
 use Rattle.envelope.proofs.Laws as E
 use Rattle.error.specs.Told.{ValidTold}
 use Rattle.polyblep.proofs.Laws as B
 use Rattle.voice.specs.Sources.{activeSource, ValidSource, ValidStep, steppedSource, startedEntry}
-use Rattle.voice.specs.Voices.{Valid, sounding, silentVoice, triggeredVoice, releasedVoice, stoppedVoice, audible, tickedVoice, steppedVoice}
+use Rattle.voice.specs.Voices.{Valid, sounding, silentVoice, triggeredVoice, releasedVoice, stoppedVoice, audible, tickedVoice, steppedVoice, shapedBy, sampleBy, stereoStep, pannedBy, pairBy}
 use Rattle.tier.specs.declared.EffectKind.{EffectKind}
 use Rattle.tier.specs.declared.EffectKind.the-variants as K
 use Rattle.voice.specs.declared.source.VoiceSource.{VoiceSource}
 use Rattle.voice.specs.declared.source.VoiceSource.the-variants as S
 use Rattle.voice.specs.declared.Voice.{Voice}
+use Rattle.voice.specs.declared.StereoGiven.the-variants as P
 
 pub valid-source-stepped : (s : VoiceSource) → ValidSource s → ValidStep (steppedSource s)
 unfolding steppedSource
@@ -95,3 +99,30 @@ ticked-silent v e =
 pub stepped-idle : (v : Voice) → v .source ≡ S.Idle → (steppedVoice v .given ≡ G.None) × (steppedVoice v .voice ≡ v)
 unfolding steppedVoice steppedSource
 stepped-idle v e = (rw e, rw e)
+
+-- ---- by a rule of gain 255
+-- document 01's sample is by document 01's rule
+pub sample-old : (v : Voice) → sampleBy false v ≡ steppedVoice v .given
+unfolding sampleBy steppedVoice
+sample-old v = go (steppedSource (v .source) .given)
+  where
+    go : (g : Given) → shapedBy (gainedBy false) (v .adsr .«level_q8») (v .«gain_q8») g ≡ shapedBy gained (v .adsr .«level_q8») (v .«gain_q8») g
+    go (G.Sample s) = rw (gained-old s (v .adsr .«level_q8»), gained-old (gained s (v .adsr .«level_q8»)) (v .«gain_q8»))
+    go G.None = refl
+
+pub pair-old : (v : Voice) → pairBy false v ≡ stereoStep v .given
+unfolding pairBy stereoStep
+pair-old v = rw (sample-old v) (go (steppedVoice v .given))
+  where
+    go : (g : Given) → pannedBy (gainedBy false) (v .«pan_q8») g ≡ pannedBy gained (v .«pan_q8») g
+    go (G.Sample s) = rw (gained-old s (panGains (v .«pan_q8») .left), gained-old s (panGains (v .«pan_q8») .right))
+    go G.None = refl
+
+-- an idle voice gives none, whatever the rule
+pub sample-idle : (whole : Bool) (v : Voice) → v .source ≡ S.Idle → sampleBy whole v ≡ G.None
+unfolding sampleBy steppedSource
+sample-idle whole v e = rw e
+
+pub pair-idle : (whole : Bool) (v : Voice) → v .source ≡ S.Idle → pairBy whole v ≡ P.None
+unfolding pairBy
+pair-idle whole v e = rw (sample-idle whole v e)

@@ -11,10 +11,10 @@ use Rattle.envelope.specs.Blocks.{levelAfter}
 use Rattle.envelope.proofs.Ticks.{idle-ticks}
 use Rattle.fixed.specs.declared.Given.{Given}
 use Rattle.fixed.specs.declared.Given.the-variants as G
-use Rattle.fixed.specs.Fixed.{gained}
+use Rattle.fixed.specs.Fixed.{gainedBy}
 use Rattle.fixed.specs.Answers.{heard, Stops}
 use Rattle.voice.specs.Sources.{activeSource, steppedSource}
-use Rattle.voice.specs.Voices.{Valid, sounding, audible, tickedVoice, steppedVoice, shapedBy}
+use Rattle.voice.specs.Voices.{Valid, sounding, audible, tickedVoice, steppedVoice, sampleBy, shapedBy}
 use Rattle.voice.specs.Blocks.{sourceStep, sourceRun, voiceStep, voiceAnswer, voiceRun, kept, soundedSource, restedSource, shapedAnswers}
 use Rattle.voice.specs.declared.source.VoiceSource.{VoiceSource}
 use Rattle.voice.specs.declared.source.VoiceSource.the-variants as S
@@ -61,10 +61,10 @@ pub frame-voice : (v : Voice) → voiceStep v ≡ sounding v (kept (loud v) (sou
 unfolding voiceStep steppedVoice
 frame-voice v = rw (tick-parts v, kept-stepped (loud v) (v .source) (loud-source v))
 
-pub frame-answer : (v : Voice)
-    → voiceAnswer v ≡ shapedBy gained (A.ticked (v .adsr) .«level_q8») (v .«gain_q8») (steppedSource (v .source) .given) ∷ []
-unfolding voiceAnswer steppedVoice
-frame-answer v = rw (tick-parts v, kept-stepped (loud v) (v .source) (loud-source v))
+pub frame-answer : (whole : Bool) (v : Voice)
+    → voiceAnswer whole v ≡ shapedBy (gainedBy whole) (A.ticked (v .adsr) .«level_q8») (v .«gain_q8») (steppedSource (v .source) .given) ∷ []
+unfolding voiceAnswer sampleBy
+frame-answer whole v = rw (tick-parts v, kept-stepped (loud v) (v .source) (loud-source v))
 
 -- ---- frame by frame
 kept-idle : (b : Bool) → kept b S.Idle ≡ S.Idle
@@ -133,33 +133,33 @@ voice-ticks (suc n) v =
     ∙ ap (λ (s : VoiceSource). sounding v s (after A.ticked n (A.ticked (v .adsr)))) (rested-next n (v .source) (v .adsr) _ refl))
 
 -- the answers of n frames: the source's, each shaped by the level that its tick left
-pub voice-run : (n : ℕ) (v : Voice) → voiceRun n v ≡ shapedAnswers (v .«gain_q8») (sourceRun n (v .source)) (given A.ticked levelAfter n (v .adsr))
+pub voice-run : (whole : Bool) (n : ℕ) (v : Voice) → voiceRun whole n v ≡ shapedAnswers whole (v .«gain_q8») (sourceRun n (v .source)) (given A.ticked levelAfter n (v .adsr))
 unfolding given shapedAnswers
-voice-run zero v = refl
-voice-run (suc n) v =
+voice-run whole zero v = refl
+voice-run whole (suc n) v =
     let t = A.ticked (v .adsr) in
-    let e = voice-run n (sounding v (kept (loud v) (sourceStep (v .source))) t) ∙ ap (λ (gs : List Given). shapedAnswers (v .«gain_q8») gs (given A.ticked levelAfter n t)) (kept-run (loud v) (v .source) (loud-source v) n) in
-    rw (frame-answer v, frame-voice v, run-suc n (v .source) _ refl)
-    (ap (λ (gs : List Given). shapedBy gained (t .«level_q8») (v .«gain_q8») (steppedSource (v .source) .given) ∷ gs) e)
+    let e = voice-run whole n (sounding v (kept (loud v) (sourceStep (v .source))) t) ∙ ap (λ (gs : List Given). shapedAnswers whole (v .«gain_q8») gs (given A.ticked levelAfter n t)) (kept-run (loud v) (v .source) (loud-source v) n) in
+    rw (frame-answer whole v, frame-voice v, run-suc n (v .source) _ refl)
+    (ap (λ (gs : List Given). shapedBy (gainedBy whole) (t .«level_q8») (v .«gain_q8») (steppedSource (v .source) .given) ∷ gs) e)
 
 -- ---- shaped answers
-pub none-shaped : (gain : ℕ) (gs : List Given) (ls : List ℕ) → heard gs ≡ [] → heard (shapedAnswers gain gs ls) ≡ []
+pub none-shaped : (whole : Bool) (gain : ℕ) (gs : List Given) (ls : List ℕ) → heard gs ≡ [] → heard (shapedAnswers whole gain gs ls) ≡ []
 unfolding heard shapedAnswers
-none-shaped gain [] ls h = refl
-none-shaped gain (g ∷ gs) [] h = refl
-none-shaped gain (G.Sample x ∷ gs) (l ∷ ls) h = absurd (let z : _≡_ {A = ℕ} 0 1 = cc in omega arith)
-none-shaped gain (G.None ∷ gs) (l ∷ ls) h = none-shaped gain gs ls h
+none-shaped whole gain [] ls h = refl
+none-shaped whole gain (g ∷ gs) [] h = refl
+none-shaped whole gain (G.Sample x ∷ gs) (l ∷ ls) h = absurd (let z : _≡_ {A = ℕ} 0 1 = cc in omega arith)
+none-shaped whole gain (G.None ∷ gs) (l ∷ ls) h = none-shaped whole gain gs ls h
 
-stops-shaped : (gain : ℕ) (gs : List Given) (ls : List ℕ) → Stops gs → Stops (shapedAnswers gain gs ls)
+stops-shaped : (whole : Bool) (gain : ℕ) (gs : List Given) (ls : List ℕ) → Stops gs → Stops (shapedAnswers whole gain gs ls)
 unfolding shapedAnswers
-stops-shaped gain [] ls h = tt
-stops-shaped gain (g ∷ gs) [] h = tt
-stops-shaped gain (G.Sample x ∷ gs) (l ∷ ls) h = stops-shaped gain gs ls h
-stops-shaped gain (G.None ∷ gs) (l ∷ ls) h = none-shaped gain gs ls h
+stops-shaped whole gain [] ls h = tt
+stops-shaped whole gain (g ∷ gs) [] h = tt
+stops-shaped whole gain (G.Sample x ∷ gs) (l ∷ ls) h = stops-shaped whole gain gs ls h
+stops-shaped whole gain (G.None ∷ gs) (l ∷ ls) h = none-shaped whole gain gs ls h
 
 -- a voice that gives none gives none from then on
-pub voice-stops : (n : ℕ) (v : Voice) → Stops (voiceRun n v)
-voice-stops n v = rw (voice-run n v) (stops-shaped (v .«gain_q8») _ (given A.ticked levelAfter n (v .adsr)) (source-stops n (v .source)))
+pub voice-stops : (whole : Bool) (n : ℕ) (v : Voice) → Stops (voiceRun whole n v)
+voice-stops whole n v = rw (voice-run whole n v) (stops-shaped whole (v .«gain_q8») _ (given A.ticked levelAfter n (v .adsr)) (source-stops n (v .source)))
 
 -- ---- valid
 pub valid-frames : (n : ℕ) (v : Voice) → Valid v → Valid (after voiceStep n v)

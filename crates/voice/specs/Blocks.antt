@@ -10,10 +10,10 @@ use Rattle.laws.specs.Runs.{after, given}
 use Rattle.envelope.specs.declared.Adsr.{Adsr}
 use Rattle.envelope.specs.Adsrs as A
 use Rattle.fixed.specs.declared.Given.{Given}
-use Rattle.fixed.specs.Fixed.{gained}
+use Rattle.fixed.specs.Fixed.{gainedBy}
 use Rattle.fixed.specs.Answers.{Filled}
 use Rattle.voice.specs.Sources.{activeSource, steppedSource}
-use Rattle.voice.specs.Voices.{Valid, shapedBy, tickedVoice, steppedVoice}
+use Rattle.voice.specs.Voices.{Valid, shapedBy, tickedVoice, steppedVoice, sampleBy}
 use Rattle.voice.specs.declared.source.VoiceSource.{VoiceSource}
 use Rattle.voice.specs.declared.source.VoiceSource.the-variants as S
 use Rattle.voice.specs.declared.Voice.{Voice}
@@ -40,17 +40,17 @@ pub record SourceBlock (s : VoiceSource) (n : ℕ) (cells : List ℤ) (r : Sourc
 unfoldable pub voiceStep : Voice → Voice
 voiceStep v = steppedVoice (tickedVoice v) .voice
 
-unfoldable pub voiceAnswer : Voice → List Given
-voiceAnswer v = steppedVoice (tickedVoice v) .given ∷ []
+unfoldable pub voiceAnswer : Bool → Voice → List Given
+voiceAnswer whole v = sampleBy whole (tickedVoice v) ∷ []
 
--- the answers of n frames
-abbrev pub voiceRun : ℕ → Voice → List Given
-voiceRun n v = given voiceStep voiceAnswer n v
+-- the answers of n frames, by a rule of gain 255
+abbrev pub voiceRun : Bool → ℕ → Voice → List Given
+voiceRun whole n v = given voiceStep (voiceAnswer whole) n v
 
 -- what n frames at once give back
-pub record VoiceBlock (v : Voice) (n : ℕ) (cells : List ℤ) (r : VoiceRun) (filled : List ℤ) : Type 0 where
+pub record VoiceBlock (whole : Bool) (v : Voice) (n : ℕ) (cells : List ℤ) (r : VoiceRun) (filled : List ℤ) : Type 0 where
   pub voice : Made Valid (after voiceStep n v) (r .voice)
-  pub given : Filled (voiceRun n v) cells (r .given) filled
+  pub given : Filled (voiceRun whole n v) cells (r .given) filled
 
 -- ---- the same, part by part
 -- "a voice then inaudible gets the idle source"
@@ -69,14 +69,14 @@ restedSource zero s a = s
 restedSource (suc n) s a = kept (activeSource s || A.active (after A.ticked (suc n) a)) s
 
 -- answers, each "by envelope first, then voice"
-unfoldable pub shapedAnswers : ℕ → List Given → List ℕ → List Given
-shapedAnswers gain [] levels = []
-shapedAnswers gain (g ∷ gs) [] = []
-shapedAnswers gain (g ∷ gs) (l ∷ levels) = shapedBy gained l gain g ∷ shapedAnswers gain gs levels
+unfoldable pub shapedAnswers : Bool → ℕ → List Given → List ℕ → List Given
+shapedAnswers whole gain [] levels = []
+shapedAnswers whole gain (g ∷ gs) [] = []
+shapedAnswers whole gain (g ∷ gs) (l ∷ levels) = shapedBy (gainedBy whole) l gain g ∷ shapedAnswers whole gain gs levels
 
 -- the first n cells shaped, by level 0 where there is no more; the rest stays
-unfoldable pub shapedFirst : ℕ → ℕ → List ℤ → List ℕ → List ℤ
-shapedFirst gain zero cells levels = cells
-shapedFirst gain (suc n) [] levels = []
-shapedFirst gain (suc n) (x ∷ cells) [] = gained (gained x 0) gain ∷ shapedFirst gain n cells []
-shapedFirst gain (suc n) (x ∷ cells) (l ∷ levels) = gained (gained x l) gain ∷ shapedFirst gain n cells levels
+unfoldable pub shapedFirst : Bool → ℕ → ℕ → List ℤ → List ℕ → List ℤ
+shapedFirst whole gain zero cells levels = cells
+shapedFirst whole gain (suc n) [] levels = []
+shapedFirst whole gain (suc n) (x ∷ cells) [] = gainedBy whole (gainedBy whole x 0) gain ∷ shapedFirst whole gain n cells []
+shapedFirst whole gain (suc n) (x ∷ cells) (l ∷ levels) = gainedBy whole (gainedBy whole x l) gain ∷ shapedFirst whole gain n cells levels

@@ -7,7 +7,7 @@ use Rattle.envelope.specs.declared.AdsrSpec.{AdsrSpec}
 use Rattle.envelope.specs.Adsrs as A
 use Rattle.fixed.specs.declared.Given.{Given}
 use Rattle.fixed.specs.declared.Given.the-variants as G
-use Rattle.fixed.specs.Fixed.{gained, panGains}
+use Rattle.fixed.specs.Fixed.{gained, gainedBy, panGains}
 use Rattle.voice.specs.Sources.{ValidSource, activeSource, steppedSource}
 use Rattle.voice.specs.declared.source.VoiceSource.{VoiceSource}
 use Rattle.voice.specs.declared.source.VoiceSource.the-variants as S
@@ -110,6 +110,10 @@ steppedVoice v =
       given = shapedBy gained (v .adsr .«level_q8») (v .«gain_q8») (s .given);
     }
 
+-- the sample of a request, by a rule of gain 255; document 01's is steppedVoice's
+unfoldable pub sampleBy : Bool → Voice → Given
+sampleBy whole v = shapedBy (gainedBy whole) (v .adsr .«level_q8») (v .«gain_q8») (steppedSource (v .source) .given)
+
 -- the mono sample on both sides, "after pan"
 abbrev pub pannedBy : (ℤ → ℕ → ℤ) → ℕ → Given → StereoGiven
 pannedBy rule pan (G.Sample s) = P.Pair (rule s (panGains pan .left)) (rule s (panGains pan .right))
@@ -119,3 +123,7 @@ unfoldable pub stereoStep : Voice → StereoStep
 stereoStep v =
     let s = steppedVoice v in
     record { voice = s .voice; given = pannedBy gained (v .«pan_q8») (s .given) }
+
+-- the same by a rule of gain 255; document 01's is stereoStep's
+unfoldable pub pairBy : Bool → Voice → StereoGiven
+pairBy whole v = pannedBy (gainedBy whole) (v .«pan_q8») (sampleBy whole v)

@@ -68,13 +68,13 @@ impl VoiceSource {
 }
 
 // The first n cells, each by its level, then by the voice's gain.
-fn shape(samples: &mut [i8; 256], levels: &[u8; 256], gain_q8: u8, n: usize)
+fn shape(samples: &mut [i8; 256], levels: &[u8; 256], gain_q8: u8, whole: bool, n: usize)
     requires { ⌜ n ≤ 256 ⌝ }
-    ensures { λ _. ⌜ now (samples .exit) ≡ shapedFirst «gain_q8» n (now (samples .entry)) (now (levels .entry)) ⌝ }
+    ensures { λ _. ⌜ now (samples .exit) ≡ shapedFirst whole «gain_q8» n (now (samples .entry)) (now (levels .entry)) ⌝ }
 {
     for k in 0..n {
-        let leveled = fixed::apply_gain_q8(samples[k], levels[k]);
-        samples[k] = fixed::apply_gain_q8(leveled, gain_q8);
+        let leveled = fixed::apply_gain_by(samples[k], levels[k], whole);
+        samples[k] = fixed::apply_gain_by(leveled, gain_q8, whole);
     }
 }
 
@@ -100,10 +100,10 @@ fn keep(source: VoiceSource, is_active: bool, adsr: Adsr) -> VoiceSource
 }
 
 impl Voice {
-    // len ticks, 256 at most, a sample asked for after each: the first `given` cells take what was given.
-    pub fn run(self, len: usize, samples: &mut [i8; 256]) -> VoiceRun
+    // len ticks, 256 at most, a sample asked for after each: the first `given` cells take what was given, by the rule `whole` of gain 255.
+    pub fn run(self, len: usize, whole: bool, samples: &mut [i8; 256]) -> VoiceRun
         requires { ⌜ Valid self ⌝ }
-        ensures { λ r. ⌜ VoiceBlock self (min len 256) (now (samples .entry)) r (now (samples .exit)) ⌝ }
+        ensures { λ r. ⌜ VoiceBlock whole self (min len 256) (now (samples .entry)) r (now (samples .exit)) ⌝ }
     {
         if len == 0 {
             return VoiceRun {
@@ -118,7 +118,7 @@ impl Voice {
         let f = source.fill(len, samples);
         let given = f.given;
         let filled = f.source;
-        shape(samples, &levels, self.gain_q8, given);
+        shape(samples, &levels, self.gain_q8, whole, given);
         let n = tone::block_len(len);
         let next = keep(filled, lasting(source.is_active(), given, n), adsr);
         let voice = Voice {

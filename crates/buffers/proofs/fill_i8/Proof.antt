@@ -9,10 +9,10 @@ use Rattle.buffers.proofs.fill_i8.Statement.{statement}
 use Rattle.buffers.proofs.fill_i8.Tie as tie
 
 abbrev Inv-loop : tie.InvT-loop
-Inv-loop shape out₀ len sides left₀ right₀ raw₀ mixer₀ at₀ n₀ out left right raw mixer at n = Shaping toI8 shape mixer₀ out₀ mixer at n out
+Inv-loop shape out₀ len sides left₀ right₀ raw₀ state₀ at₀ n₀ out left right raw state at n = Shaping toI8 shape state₀ out₀ state at n out
 
 abbrev μ-loop : tie.MeasureT-loop
-μ-loop shape out₀ len sides left₀ right₀ raw₀ mixer₀ at₀ n₀ out left right raw mixer at n = len - at
+μ-loop shape out₀ len sides left₀ right₀ raw₀ state₀ at₀ n₀ out left right raw state at n = len - at
 
 abbrev start : tie.At-loop Inv-loop μ-loop → tie.Start Inv-loop μ-loop
 start s = s .before .before .before
@@ -27,7 +27,7 @@ loop-again c =
     let l = p .before .before .before in
     let s = turn l in
     let a = start s .args in
-    shape-turn toI8 (a .shape) (a .m) (a .out .now) (s .before .before .sided .ensures) (s .loop .inv) (l .before .before .before .before .sound .ensures) (l .lay .ensures) (p .put-i8 .ensures) (c .span2 .ensures)
+    shape-turn toI8 (a .shape) (a .p) (a .out .now) (s .before .before .sided .ensures) (s .loop .inv) (l .before .before .before .before .sound .ensures) (l .lay .ensures) (p .put-i8 .ensures) (c .span2 .ensures)
 
 pub fill-i8-spec : {M : Type 1} → statement M
 fill-i8-spec =
@@ -48,4 +48,4 @@ fill-i8-spec =
     (λ c. let l = c .before .before .before .before .before in shape-less _ _ _ _ (turn l .loop .inv) (l .lay .ensures) (l .before .before .before .before .before .before .before .loop-test .taken))
     loop-again
     (λ c. shape-long _ _ _ _ (c .before .loop .inv))
-    (λ c. let s = c .before in let a = start s .args in shape-end toI8 (a .shape) (a .m) (a .out .now) (s .loop .inv) (omega (arith, c .loop-test .left))))
+    (λ c. let s = c .before in let a = start s .args in shape-end toI8 (a .shape) (a .p) (a .out .now) (s .loop .inv) (omega (arith, c .loop-test .left))))

@@ -12,7 +12,7 @@ fill-levels-requires : tie.Need-fill-levels-requires
 fill-levels-requires c κs =
     let p = c .before .before in
     let n = p .before .before in
-    let s = n .before .before .before in
+    let s = n .before .before .before .before in
     let e = value-is (sym (ap toldPeriod (p .period .given .1)) ∙ n .new .ensures .same ∙ period-accepted _ (s .pre .period)) in
     (s .pre, rw (p .period .given .1) at (n .new .ensures .valid), ap (λ (q : Period). q .counts) e)
 
@@ -20,7 +20,7 @@ returns-2 : tie.Need-returns-2
 returns-2 c =
     let p = c .before in
     let n = p .before .before in
-    let s = n .before .before .before in
+    let s = n .before .before .before .before in
     not-refused (sym (n .new .ensures .same ∙ period-accepted _ (s .pre .period)) ∙ ap toldPeriod (p .e .given .1))
 
 pub fill-u16-spec : {M : Type 1} → statement M

@@ -1,18 +1,17 @@
--- `fixed::apply_gain_q8` meets its contract. Each value on the way fits, by the sizes of its parts.
-use Rattle.laws.proofs.Signed.{signed}
-use Rattle.fixed.proofs.Laws.{Gained, gained-fits}
+-- `fixed::apply_gain_q8` meets its contract: document 01's rule is the gain itself.
+use borrow.Author.Needs.{needs}
+use mir.Syntax.{w8}
+use mir.ValLaws.{toZ-ofZ}
+use Rattle.fixed.proofs.Laws.{gained-old}
 use Rattle.fixed.proofs.apply_gain_q8.Statement.{statement}
 use Rattle.fixed.proofs.apply_gain_q8.Tie as tie
 
-fitC : (c : tie.Start) → Gained (c .args .sample) (c .args .gain-q8)
-fitC c = gained-fits _ _ (c .fits .sample) (c .fits .gain-q8)
+returns : tie.Need-returns
+returns c =
+    let by = c .apply-gain-by in
+    let s = c .before .args .sample in
+    rw (toZ-ofZ w8 (by .result) (record { sfits = by .ok }), by .ensures, toZ-ofZ w8 s (c .before .fits .sample))
+    (gained-old s (c .before .args .gain-q8))
 
 pub apply-gain-q8-spec : {M : Type 1} → statement M
-apply-gain-q8-spec =
-    tie.close
-    (tie.spec
-    (λ c. let f = fitC c in search signed)
-    (λ c. let f = fitC c in search signed)
-    (λ c. let f = fitC c in search signed)
-    (λ c. let f = fitC c in search signed)
-    (λ c. let f = fitC c in search signed))
+apply-gain-q8-spec = tie.close (tie.spec (λ c κs. search needs) returns)

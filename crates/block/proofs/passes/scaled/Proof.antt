@@ -1,11 +1,11 @@
 -- `block::passes::scaled` meets its contract. Each value on the way fits.
 use Rattle.laws.proofs.Signed.{signed}
-use Rattle.block.proofs.Fits.{Scales, scales}
+use Rattle.fixed.proofs.Laws.{Gained, gained-fits}
 use Rattle.block.proofs.passes.scaled.Statement.{statement}
 use Rattle.block.proofs.passes.scaled.Tie as tie
 
-fitC : (c : tie.Start) → Scales (c .args .sample) (c .args .gain)
-fitC c = scales _ _ (c .fits .sample) (c .pre)
+fitC : (c : tie.Start) → Gained (c .args .sample) (c .args .gain)
+fitC c = gained-fits _ _ (c .fits .sample) (c .pre)
 
 pub scaled-spec : {M : Type 1} → statement M
 scaled-spec =

@@ -12,7 +12,7 @@ use Rattle.voice.proofs.Voice.run.Tie as tie
 returns : tie.Need-returns
 returns c =
     let e : min (c .before .args .len) 256 ≡ 0 = omega arith in
-    rw e (empty-block (c .before .args .self) (c .before .args .samples .now) (c .before .pre))
+    rw e (empty-block (c .before .args .whole) (c .before .args .self) (c .before .args .samples .now) (c .before .pre))
 
 shape-requires : tie.Need-shape-requires
 shape-requires c κs = let f = c .before .before in omega (arith, block-short (f .fill .ensures))
@@ -32,7 +32,7 @@ returns-2 c =
     let n = min (s .args .len) 256 in
     let k : 0 < n = omega (arith, levels .before .before .before .if1 .left) in
     rw (shape .shape .ensures)
-    (voice-block v (fill .fill .ensures) _ (s .pre) k (levels .levels2 .ensures .0 .same)
+    (voice-block (s .args .whole) v (fill .fill .ensures) _ (s .pre) k (levels .levels2 .ensures .0 .same)
     (rw (c .keep .ensures, c .before .lasting .ensures, active .is-active .ensures, count .block-len .ensures)) (levels .levels2 .ensures .1))
 
 pub run-spec : {M : Type 1} → statement M

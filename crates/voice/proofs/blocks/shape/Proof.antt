@@ -11,10 +11,10 @@ use Rattle.voice.proofs.blocks.shape.Statement.{statement}
 use Rattle.voice.proofs.blocks.shape.Tie as tie
 
 abbrev Inv-loop : tie.InvT-loop
-Inv-loop samples₀ levels gain-q8 n k₀ samples k = (k ≤ n) × (samples ≡ shapedFirst gain-q8 k samples₀ levels)
+Inv-loop samples₀ levels gain-q8 whole n k₀ samples k = (k ≤ n) × (samples ≡ shapedFirst whole gain-q8 k samples₀ levels)
 
 abbrev μ-loop : tie.MeasureT-loop
-μ-loop samples₀ levels gain-q8 n k₀ samples k = n - k
+μ-loop samples₀ levels gain-q8 whole n k₀ samples k = n - k
 
 loop-holds : tie.Need-loop-holds Inv-loop μ-loop
 unfolding shapedFirst
@@ -26,7 +26,7 @@ loop-again c =
     let cell = one .before .before in
     let s = cell .before .before in
     let a = s .before .args in
-    (omega arith, rw (toZ-ofZ w8 (c .apply-gain-q82 .result) (record { sfits = c .apply-gain-q82 .ok }), c .apply-gain-q82 .ensures, toZ-ofZ w8 (one .apply-gain-q8 .result) (record { sfits = one .apply-gain-q8 .ok }), one .apply-gain-q8 .ensures, toZ-ofZ w8 _ (record { sfits = cell .apply-gain-q8-arg .given }), s .loop .inv .1) (shaped-step (a .gain-q8) (s .loop .k) (a .samples .now) (a .levels .now) _))
+    (omega arith, rw (toZ-ofZ w8 (c .apply-gain-by2 .result) (record { sfits = c .apply-gain-by2 .ok }), c .apply-gain-by2 .ensures, toZ-ofZ w8 (one .apply-gain-by .result) (record { sfits = one .apply-gain-by .ok }), one .apply-gain-by .ensures, toZ-ofZ w8 _ (record { sfits = cell .apply-gain-by-arg .given }), s .loop .inv .1) (shaped-step (a .whole) (a .gain-q8) (s .loop .k) (a .samples .now) (a .levels .now) _))
 
 returns : tie.Need-returns Inv-loop μ-loop
 returns c = let e : c .before .loop .k ≡ c .before .before .args .n = omega arith in rw (← e) (c .before .loop .inv .1)

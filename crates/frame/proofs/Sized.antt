@@ -1,0 +1,78 @@
+-- What settling asks of a state, and that every frame keeps it. Assumes nothing.
+use Prim.Native.Nat.{ℕ, _≤_}
+use native.Mathlib.Omega.{arith}
+use mathlib.Core.Path.{_≡_, refl, ap, _∙_}
+use mathlib.Core.Bool.{Bool, true, false, cond}
+use lib.Dec.{eqb}
+use lib.ListN.{length, length-set}
+use Rattle.laws.proofs.Bools.{never}
+use Rattle.laws.proofs.Lists.{length-mapFirst}
+use Rattle.marks.specs.Marks as K
+use Rattle.marks.specs.declared.Present.{Present}
+use Rattle.mixer.specs.declared.Mixer.{Mixer}
+use Rattle.voice.specs.Voices.{tickedVoice}
+use Rattle.frame.specs.Fades.{fadeEnded, fadeAt, nextT, advanced}
+use Rattle.frame.specs.Frames.{enveloped, sampled, sampledCount, monoFrameBy, dutyFrameBy, stereoFrameBy}
+use Rattle.frame.specs.Presents.{monoNext, dutyNext, stereoNext}
+use Rattle.frame.proofs.Alike.{marks-full, framed-full}
+
+pub record Sized (m : Mixer) : Type 0 where
+  pub few : m .n ≤ 16
+  pub full : length (m .voices) ≡ 16
+  pub fade : m .«crossfade_active» ≡ true → 2 ≤ m .n
+
+pub sized-advanced : {m : Mixer} → Sized m → Sized (advanced m)
+unfolding advanced fadeEnded fadeAt
+sized-advanced {m} h = by-active (m .«crossfade_active»)
+  where
+    ended : Sized (fadeEnded m)
+    ended = record { few = h .few; full = rw (length-set, length-set) (h .full); fade = λ e. never e }
+
+    by-end : (e : Bool) → Sized (cond e (fadeEnded m) (fadeAt m (nextT m)))
+    by-end true = ended
+    by-end false = record { few = h .few; full = h .full; fade = h .fade }
+
+    by-active : (a : Bool) → Sized (cond a (cond (eqb (nextT m) 255) (fadeEnded m) (fadeAt m (nextT m))) m)
+    by-active true = by-end (eqb (nextT m) 255)
+    by-active false = h
+
+pub sized-enveloped : {m : Mixer} → Sized m → Sized (enveloped m)
+unfolding enveloped
+sized-enveloped {m} h = record { few = h .few; full = length-mapFirst tickedVoice (m .n) (m .voices) ∙ h .full; fade = h .fade }
+
+pub sampled-few : {m : Mixer} → Sized m → sampledCount m ≤ m .n
+sampled-few {m} h = go (m .«crossfade_active») refl
+  where
+    go : (a : Bool) → m .«crossfade_active» ≡ a → cond a 2 (m .n) ≤ m .n
+    go true e = h .fade e
+    go false e = omega arith
+
+-- of a state of the present rules
+pub record Ready (p : Present) : Type 0 where
+  pub sized : Sized (p .mixer)
+  pub marked : length (p .marks .voices) ≡ 16
+
+pub valid-ready : (p : Present) → K.Valid p → Ready p
+valid-ready p v =
+    record { sized = record { few = v .inside .few; full = v .inside .full; fade = λ a. v .inside .fade a .0 }; marked = v .full }
+
+module _ (p : Present) (h : Ready p) where
+  sampled-sized : (c : ℕ) → Sized (sampled c (enveloped (advanced (p .mixer))))
+  unfolding sampled enveloped
+  sampled-sized c =
+      let a = sized-advanced (h .sized) in
+      record { few = a .few; full = framed-full c (advanced (p .mixer)) ∙ a .full; fade = a .fade }
+
+  pub mono-ready : Ready (monoNext p)
+  unfolding monoFrameBy
+  mono-ready = record { sized = sampled-sized (sampledCount (enveloped (advanced (p .mixer)))); marked = marks-full (p .mixer) (p .marks) ∙ h .marked }
+
+  pub duty-ready : Ready (dutyNext p)
+  unfolding dutyFrameBy monoFrameBy
+  duty-ready =
+      let s = sampled-sized (sampledCount (enveloped (advanced (p .mixer)))) in
+      record { sized = record { few = s .few; full = s .full; fade = s .fade }; marked = marks-full (p .mixer) (p .marks) ∙ h .marked }
+
+  pub stereo-ready : Ready (stereoNext p)
+  unfolding stereoFrameBy enveloped
+  stereo-ready = record { sized = sampled-sized (advanced (p .mixer) .n); marked = marks-full (p .mixer) (p .marks) ∙ h .marked }

@@ -1,0 +1,72 @@
+-- What stands beside the voices after a stop and a bank is what settling leaves, and a fade that is refused before its entry start changes
+-- nothing. Assumes nothing.
+use Prim.Native.Nat.{ℕ, zero, suc}
+use mathlib.Core.Path.{_≡_, refl, ap, sym, _∙_}
+use mathlib.Core.Bool.{true, false}
+use mathlib.Core.List.{List, [], _∷_}
+use lib.ListN.{drop, replicate}
+use Rattle.bank.specs.Banks.{bankOf}
+use Rattle.bank.specs.declared.SoundBank.{SoundBank}
+use Rattle.envelope.specs.Adsrs as A
+use Rattle.envelope.specs.declared.AdsrSpec.{AdsrSpec}
+use Rattle.error.specs.Told.{Told, value, refused, refusal}
+use Rattle.laws.specs.Lists.{All, mapFirst}
+use Rattle.laws.proofs.Lists.{length-mapFirst, all-replicate}
+use Rattle.marks.specs.Marks.{Valid, beside, settled}
+use Rattle.marks.specs.declared.Present.{Present}
+use Rattle.marks.proofs.Laws.{silent-settled}
+use Rattle.mixer.specs.Mixers as M
+use Rattle.mixer.specs.declared.Outcome.the-variants as O
+use Rattle.play.specs.Fades as F
+use Rattle.voice.specs.Sources.{activeSource}
+use Rattle.voice.specs.Voices.{audible, silentVoice, stoppedVoice}
+use Rattle.voice.specs.declared.Voice.{Voice}
+use Rattle.sounder.specs.Calls.{stopped, bankMarks, banked, faded}
+use Rattle.sounder.specs.Sounders.{changedBox}
+
+abbrev Silent : Voice → Type 0
+Silent v = audible v ≡ false
+
+silent : (rate : ℕ) → Silent (silentVoice rate)
+unfolding audible silentVoice activeSource A.active
+silent rate = refl
+
+quiet : (v : Voice) → Silent (stoppedVoice v)
+unfolding audible stoppedVoice activeSource A.active
+quiet v = refl
+
+all-drop : (n : ℕ) (vs : List Voice) → All Silent vs → All Silent (drop n vs)
+all-drop zero vs a = a
+all-drop (suc n) [] a = tt
+all-drop (suc n) (v ∷ vs) a = all-drop n vs (a .1)
+
+all-stopped : (n : ℕ) (vs : List Voice) → All Silent (drop n vs) → All Silent (mapFirst stoppedVoice n vs)
+all-stopped zero vs a = a
+all-stopped (suc n) [] a = tt
+all-stopped (suc n) (v ∷ vs) a = (quiet v, all-stopped n vs a)
+
+pub stopped-settled : (p : Present) → Valid p
+    → stopped p ≡ settled (beside (M.stopped (p .mixer)) (record { voices = p .marks .voices; master = true }))
+unfolding M.stopped
+stopped-settled p h =
+    let m = p .mixer in
+    let rate = m .config .«sample_rate_hz» in
+    let rest : All Silent (drop (m .n) (m .voices)) = rw (h .inside .rest) (all-drop (m .n) (replicate 16 (silentVoice rate)) (all-replicate Silent 16 (silentVoice rate) (silent rate))) in
+    sym (silent-settled (M.stopped m) _ (length-mapFirst stoppedVoice (m .n) (m .voices) ∙ h .inside .full) (h .full) (all-stopped (m .n) (m .voices) rest))
+
+bank-settled : (p : Present) (b : Told SoundBank) → Valid p
+    → beside (M.bankedBy (p .mixer) b .mixer) (bankMarks (M.bankedBy (p .mixer) b .outcome) (p .marks)) ≡ settled (beside (M.bankedBy (p .mixer) b .mixer) (p .marks))
+bank-settled p (refused n) h = sym (h .quiet)
+bank-settled p (value b) h =
+    let v = silentVoice (b .«sample_rate_hz») in
+    sym (silent-settled (M.holdingBank (p .mixer) b) (p .marks) refl (h .full) (all-replicate Silent 16 v (silent (b .«sample_rate_hz»))))
+
+pub banked-settled : (p : Present) (rate count len : ℕ) → Valid p
+    → banked p rate count len .sounder .state ≡ settled (beside (M.banked (p .mixer) rate count len .mixer) (p .marks))
+unfolding M.banked
+banked-settled p rate count len h = bank-settled p (bankOf rate count len) h
+
+-- "A refusal changes nothing": 5 to 9, which come before voice 0 is released
+pub faded-unchanged : (p : Present) (bytes : List ℕ) (id ms : ℕ) (adsr : AdsrSpec) (n : ℕ) → Valid p → F.faded (p .mixer) bytes id ms adsr ≡ M.unchanged (p .mixer) n
+    → faded p bytes id ms adsr ≡ changedBox (O.Refused (refusal n)) p
+faded-unchanged p bytes id ms adsr n h e = rw e (ap (changedBox (O.Refused (refusal n))) (h .quiet))

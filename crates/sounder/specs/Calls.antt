@@ -1,0 +1,80 @@
+-- What each call makes of a state of the present rules: document 01's step of the mixer, and what then stands beside the voices. Assumes
+-- nothing.
+use Prim.Native.Nat.{ℕ}
+use mathlib.Core.Bool.{true}
+use mathlib.Core.List.{List}
+use Rattle.config.specs.Config.{defaultDuty}
+use Rattle.config.specs.declared.AudioConfig.{AudioConfig}
+use Rattle.envelope.specs.declared.AdsrSpec.{AdsrSpec}
+use Rattle.marks.specs.Marks.{noMarks, startedMark, markedAt, settled, beside}
+use Rattle.marks.specs.declared.Marks.{Marks}
+use Rattle.marks.specs.declared.Present.{Present}
+use Rattle.mixer.specs.Mixers as M
+use Rattle.mixer.specs.declared.Outcome.{Outcome}
+use Rattle.mixer.specs.declared.Outcome.the-variants as O
+use Rattle.mixer.specs.declared.VoiceStealingPolicy.{VoiceStealingPolicy}
+use Rattle.play.specs.Fades as F
+use Rattle.play.specs.Plays as P
+use Rattle.play.specs.declared.PlayOutcome.{PlayOutcome}
+use Rattle.play.specs.declared.PlayOutcome.the-variants as Q
+use Rattle.polyblep.specs.declared.PolyBlepWaveform.{PolyBlepWaveform}
+use Rattle.requests.specs.Presents.{playedPresent}
+use Rattle.start.specs.declared.Request.{Request}
+use Rattle.tone.specs.declared.Waveform.{Waveform}
+use Rattle.sounder.specs.Sounders.{changedBox, playedBox}
+use Rattle.sounder.specs.declared.SounderChanged.{SounderChanged}
+use Rattle.sounder.specs.declared.SounderPlayed.{SounderPlayed}
+
+-- Nothing stands beside any voice, and "gain 255 shall hand the sample through": the master's too, also where opening is refused.
+abbrev pub opened : ℕ → AudioConfig → VoiceStealingPolicy → SounderChanged
+opened n config policy = let c = M.opened n config policy in changedBox (c .outcome) (beside (c .mixer) (noMarks true))
+
+-- two voices, under the policy that stands where none is chosen; turned down as any opening is
+abbrev pub openedTwo : AudioConfig → SounderChanged
+openedTwo config = opened 2 config M.defaultPolicy
+
+-- 16,000 Hz, a period of 1,000, first-order shaper, master gain 255
+abbrev pub defaultSounder : Present
+defaultSounder = beside (M.fresh 2 defaultDuty M.defaultPolicy) (noMarks true)
+
+-- pan and master gain start and silence nothing: the marks stay
+abbrev pub panned : Present → ℕ → ℕ → Present
+panned p i pan = beside (M.panned (p .mixer) i pan) (p .marks)
+
+abbrev pub withMasterGain : Present → ℕ → Present
+withMasterGain p gain = beside (M.withMasterGain (p .mixer) gain) (p .marks)
+
+-- A stop leaves no voice audible. "Voices ringing in such an image use the old gain rule .. and so does master gain until the next stop."
+abbrev pub stopped : Present → Present
+stopped p = beside (M.stopped (p .mixer)) (noMarks true)
+
+-- "Setting a bank makes .. all voices silent"; "A refusal changes nothing"
+abbrev pub bankMarks : Outcome → Marks → Marks
+bankMarks O.Done k = noMarks (k .master)
+bankMarks (O.Refused e) k = k
+
+abbrev pub banked : Present → ℕ → ℕ → ℕ → SounderChanged
+banked p rate count len =
+    let c = M.banked (p .mixer) rate count len in
+    changedBox (c .outcome) (beside (c .mixer) (bankMarks (c .outcome) (p .marks)))
+
+-- the voice that a request got was started; "A refusal changes nothing" (`requests`)
+abbrev pub played : Present → List ℕ → Request → SounderPlayed
+played p bytes r = let q = playedPresent p bytes r in playedBox (q .outcome) (q .present)
+
+-- "A fade starts voice 1". Voice 0 was released and may be inaudible, also where the fade was refused at its entry start.
+abbrev pub fadeMarks : Outcome → Marks → Marks
+fadeMarks O.Done k = markedAt 1 startedMark k
+fadeMarks (O.Refused e) k = k
+
+abbrev pub faded : Present → List ℕ → ℕ → ℕ → AdsrSpec → SounderChanged
+faded p bytes id ms adsr =
+    let c = F.faded (p .mixer) bytes id ms adsr in
+    changedBox (c .outcome) (settled (beside (c .mixer) (fadeMarks (c .outcome) (p .marks))))
+
+-- Tone and PolyBLEP start voice 0; "with N = 0 they do nothing", and settling leaves nothing beside the silent place.
+abbrev pub toned : Present → ℕ → ℕ → Waveform → Present
+toned p hz ms waveform = settled (beside (P.toned (p .mixer) hz ms waveform) (markedAt 0 startedMark (p .marks)))
+
+abbrev pub polyBleped : Present → ℕ → ℕ → PolyBlepWaveform → Present
+polyBleped p hz ms waveform = settled (beside (P.polyBleped (p .mixer) hz ms waveform) (markedAt 0 startedMark (p .marks)))

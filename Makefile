@@ -4,7 +4,7 @@
 # make drift         how far the float pitch drifts, measured on the running programs (docs/PITCH.md)
 # make edits         every must-fail edit, those of the gate and the others
 # make pictures      docs/pictures, and the table of docs/LENGTHS.md, made anew from the program's answers
-# make hosts         the static library, tested from C and from Rust
+# make hosts         the static libraries, tested from C and from Rust; the program that makes banks from lists
 # make mutants       the mutation run (docs/MUTANTS.md)
 # make bench         the comparison with it in speed (docs/SPEED.md); it takes minutes and belongs to no gate
 

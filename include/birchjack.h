@@ -31,7 +31,9 @@ enum birchjack_refusal {
     BIRCHJACK_INVALID_EFFECT_KIND = 9, /* an entry's kind byte is above 5 */
     BIRCHJACK_NOT_CARRIED = 10,        /* an entry of a kind with stored samples */
     BIRCHJACK_BAD_SUM = 11,            /* a sum outside -2,048..2,032 */
-    BIRCHJACK_LOW_RATE = 12            /* an evacuation pattern or its reader at a rate below 20 */
+    BIRCHJACK_LOW_RATE = 12,           /* an evacuation pattern or its reader at a rate below 20 */
+    BIRCHJACK_BAD_ENTRIES = 13,        /* entries that make no bank */
+    BIRCHJACK_SHORT_BUFFER = 14        /* a buffer shorter than what is written to it */
 };
 
 /* ---- numbers alone */
@@ -106,6 +108,16 @@ uint8_t birchjack_payload(const uint8_t *bytes, size_t bytes_len, uint32_t sampl
 /* The payload of the entry with an id: its offset in the bytes and its length. 4, 8 and 9 as above. */
 uint8_t birchjack_payload_of(const uint8_t *bytes, size_t bytes_len, uint32_t sample_rate_hz, uint16_t effect_count, uint16_t id,
                              uint32_t (*out)[2]);
+
+/* ---- writing a bank */
+
+/* The bank of up to 64 entries with ids of their own, at the front of `out`: the header's ten bytes as given, the entries by rising id, then
+ * the payloads in the same order without gaps; and its length. Cells behind it are not written. An entry has thirteen bytes, big-endian:
+ * id (2), kind (1), flags (1), gain (1), param0 (2), param1 (2), length of its payload (4); bytes behind the last whole one are not read. The
+ * payloads are lent end to end, in the order of the entries. 13 for more than 64 entries, a kind above 5, a payload over 65,535 bytes,
+ * lengths that do not add up to the payloads lent, or an id twice; then 14 for a buffer that is shorter than the bank. */
+uint8_t birchjack_write_bank(const uint8_t (*header)[10], const uint8_t *entries, size_t entries_len, const uint8_t *payloads,
+                             size_t payloads_len, uint8_t *out, size_t out_len, size_t *len);
 
 /* ---- an engine that lives for the call: n voices, a policy (free_only: FreeChannelOnly, else LowestPriorityOldest), a master gain, this
  * bank, and the requests played one after another. A request has ten bytes, big-endian: id (2), attack (2), decay (2), sustain (1),

@@ -1,6 +1,6 @@
 //! What is measured: a row for each.
 
-use crate::job::{Job, Script};
+use crate::job::{Given, Job, Script};
 
 /// Which box does the job.
 #[derive(Clone, Copy)]
@@ -193,6 +193,36 @@ fn searches(count: u16, cases: &mut Vec<Case>) {
     }
 }
 
+/// How many banks a job writes.
+const BANKS: usize = 200;
+
+/// Sixty-four entries, their ids in no order, with a payload of so many bytes each.
+fn writes(length: u32, cases: &mut Vec<Case>) {
+    let entry = |i: u16| {
+        let mut bytes = (i.wrapping_mul(40_503) + 17).to_be_bytes().to_vec();
+        bytes.extend([(i % 6) as u8, 1, 200]);
+        bytes.extend([1, 184, 0, 150]);
+        bytes.extend(length.to_be_bytes());
+        bytes
+    };
+    let given = Given {
+        header: [9; 10],
+        entries: (0..64).flat_map(entry).collect(),
+        payloads: (0..64 * length).map(|at| at as u8).collect(),
+    };
+    cases.push(Case {
+        rules: Rules::Document01,
+        name: match length {
+            0 => "write, 64 entries, no payloads".to_string(),
+            _ => format!("write, 64 entries, {length} bytes each"),
+        },
+        unit: "bank",
+        units: BANKS,
+        job: Job::Write(given, BANKS),
+        script: sounding(2, TONE, &PAD),
+    });
+}
+
 /// Frames and requests, which a box does.
 fn boxed() -> Vec<Case> {
     let mut cases = vec![];
@@ -237,6 +267,9 @@ pub fn all() -> Vec<Case> {
     let mut cases = boxed();
     for count in [255, 4095] {
         searches(count, &mut cases);
+    }
+    for length in [0, 100] {
+        writes(length, &mut cases);
     }
     #[cfg(feature = "present")]
     cases.extend(present());

@@ -15,9 +15,17 @@ pub struct Script {
     pub blep_hz: u32,
 }
 
+/// What a bank is made of: a header, entries of thirteen bytes, and the payloads end to end.
+pub struct Given {
+    pub header: [u8; 10],
+    pub entries: Vec<u8>,
+    pub payloads: Vec<u8>,
+}
+
 /// The calls of one side. Each does its job whole, as the port's calls for other languages do.
 pub trait Side {
     fn find(bank: &[u8], rate: u32, count: u16, id: u16, entry: &mut [u32; 8]) -> u8;
+    fn write(given: &Given, out: &mut [u8]) -> usize;
     fn play(script: &Script) -> usize;
     fn mono(script: &Script, out: &mut [i16]) -> usize;
     fn stereo(script: &Script, out: &mut [i16]) -> usize;
@@ -27,6 +35,8 @@ pub trait Side {
 pub enum Job {
     /// A search for each of these ids in turn, this many times.
     Find(Vec<u16>, usize),
+    /// A bank, written this many times.
+    Write(Given, usize),
     /// The script's requests, this many times from an opening on.
     Play(usize),
     /// This many frames.
@@ -42,6 +52,7 @@ pub struct Answer {
     entry: [u32; 8],
     pcm: Vec<i16>,
     duty: Vec<u16>,
+    bank: Vec<u8>,
 }
 
 impl Answer {
@@ -51,11 +62,16 @@ impl Answer {
             Job::Mono(frames) => (frames, 0),
             Job::Stereo(frames) => (2 * frames, 0),
             Job::Duty(frames) => (0, frames),
-            Job::Find(..) | Job::Play(_) => (0, 0),
+            Job::Find(..) | Job::Write(..) | Job::Play(_) => (0, 0),
+        };
+        let bank = match job {
+            Job::Write(given, _) => 10 + given.entries.len() / 13 * 16 + given.payloads.len(),
+            _ => 0,
         };
         Answer {
             pcm: vec![0; pcm],
             duty: vec![0; duty],
+            bank: vec![0; bank],
             ..Answer::default()
         }
     }
@@ -90,6 +106,11 @@ pub fn run<S: Side>(job: &Job, script: &Script, answer: &mut Answer) {
                     );
                     answer.number += 1 + number as usize;
                 }
+            }
+        }
+        Job::Write(given, times) => {
+            for _ in 0..*times {
+                answer.number += S::write(black_box(given), &mut answer.bank);
             }
         }
         Job::Play(times) => {

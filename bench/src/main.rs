@@ -6,6 +6,7 @@
 mod cases;
 mod job;
 mod library;
+mod writer;
 
 /// The two sides of document 01's box.
 #[path = "."]

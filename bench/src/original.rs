@@ -8,7 +8,8 @@ use super::source::error::AudioError;
 use super::source::output::DutyMode;
 use super::source::synth::PolyBlepWaveform;
 
-use crate::job::{Script, Side};
+use crate::job::{Given, Script, Side};
+use crate::writer;
 
 pub struct Original;
 
@@ -88,6 +89,12 @@ impl Side for Original {
                 0
             }
         }
+    }
+
+    /// The original has no writer of banks: this is one in Rust, with the standard library's sort.
+    #[inline(never)]
+    fn write(given: &Given, out: &mut [u8]) -> usize {
+        writer::write(&given.header, &given.entries, &given.payloads, out).unwrap_or(0)
     }
 
     #[inline(never)]

@@ -1,7 +1,8 @@
 //! The port, over its static library, by the bare declarations of the crate for Rust: its safe functions would copy the requests.
 
 use super::library;
-use crate::job::{Script, Side};
+use crate::job::{Given, Script, Side};
+use birchjack::raw::birchjack_write_bank;
 
 pub struct Port;
 
@@ -26,6 +27,24 @@ impl Side for Port {
     fn find(bank: &[u8], rate: u32, count: u16, id: u16, entry: &mut [u32; 8]) -> u8 {
         // SAFETY: none of these calls has a `requires`; each slice lives and is no other's during the call.
         unsafe { library::find(bank.as_ptr(), bank.len(), rate, count, id, entry) }
+    }
+
+    fn write(given: &Given, out: &mut [u8]) -> usize {
+        let (entries, payloads, mut len) = (&given.entries, &given.payloads, 0);
+        // SAFETY: as above.
+        unsafe {
+            birchjack_write_bank(
+                &given.header,
+                entries.as_ptr(),
+                entries.len(),
+                payloads.as_ptr(),
+                payloads.len(),
+                out.as_mut_ptr(),
+                out.len(),
+                &mut len,
+            );
+        }
+        len
     }
 
     fn play(script: &Script) -> usize {

@@ -150,6 +150,38 @@ static void bank(void) {
 }
 
 /* Requests, of which each outcome is told. */
+static void writing(void) {
+    static const uint8_t header[10] = {1, 2, 3, 4, 5, 6, 7, 8, 9, 10};
+    /* id, kind, flags, gain, param0, param1, length */
+    static const uint8_t given[26] = {
+        0, 9, 3, 1, 200, 1, 184, 0, 150, 0, 0, 0, 3,
+        0, 7, 0, 0, 255, 1, 184, 0, 0, 0, 0, 0, 2,
+    };
+    static const uint8_t payloads[5] = {13, 14, 15, 1, 2};
+    static const uint8_t bank[47] = {
+        1, 2, 3, 4, 5, 6, 7, 8, 9, 10,
+        7, 0, 0, 0, 255, 0, 184, 1, 0, 0, 42, 0, 0, 0, 2, 0,
+        9, 0, 3, 1, 200, 0, 184, 1, 150, 0, 44, 0, 0, 0, 3, 0,
+        1, 2, 13, 14, 15,
+    };
+    uint8_t out[49], kept[49], more[26];
+    size_t len = 55;
+    memset(kept, 0xA5, sizeof kept);
+    memset(out, 0xA5, sizeof out);
+    CHECK(birchjack_write_bank(&header, given, 26, payloads, 5, out, 46, &len) == BIRCHJACK_SHORT_BUFFER);
+    CHECK(birchjack_write_bank(&header, given, 26, payloads, 4, out, 0, &len) == BIRCHJACK_BAD_ENTRIES);
+    memcpy(more, given, 26);
+    more[14] = 9;
+    CHECK(birchjack_write_bank(&header, more, 26, payloads, 5, out, 49, &len) == BIRCHJACK_BAD_ENTRIES);
+    more[14] = 7;
+    more[15] = 6;
+    CHECK(birchjack_write_bank(&header, more, 26, payloads, 5, out, 49, &len) == BIRCHJACK_BAD_ENTRIES);
+    CHECK(len == 55 && memcmp(out, kept, sizeof out) == 0);
+    CHECK(birchjack_write_bank(&header, given, 26, payloads, 5, out, 49, &len) == 0 && len == 47);
+    CHECK(memcmp(out, bank, 47) == 0 && out[47] == 0xA5 && out[48] == 0xA5);
+    CHECK(birchjack_write_bank(&header, given, 12, payloads, 0, out, 49, &len) == 0 && len == 10);
+}
+
 static void requests(void) {
     /* at priorities 3, 5, 6, 5 and 7, the last for an id that the bank has not */
     uint8_t asked[50];
@@ -267,6 +299,7 @@ int main(void) {
     evacuation();
     envelope();
     bank();
+    writing();
     requests();
     frames();
     refused_frames();

@@ -159,6 +159,18 @@ module _ (bytes : List ℕ) (count id : ℕ) where
       by (bad p f) = absurd (lt-irrefl 5 (omega (arith, f .above, k (f .place) (f .below))))
       by (none p f) = absurd (found-none p j h e)
 
+  -- and where none has it, 8 is
+  pub found-absent : ((i : ℕ) → i < count → kindByte bytes i ≤ 5) → ((i : ℕ) → i < count → idAt bytes i ≡ id → ⊥) → foundIn bytes count id ≡ refused 8
+  found-absent k n = by answered
+    where
+      by : Tells bytes count id probed (foundIn bytes count id) → foundIn bytes count id ≡ refused 8
+      by (hit a p f) =
+          let r = entry-known bytes (f .place) (k (f .place) (f .below)) in
+          let own : r .entry ≡ a = cc in
+          absurd (n (f .place) (f .below) (sym (r .its-id) ∙ ap (λ (x : EffectEntry). x .id) own ∙ f .asked))
+      by (bad p f) = absurd (lt-irrefl 5 (omega (arith, f .above, k (f .place) (f .below))))
+      by (none p f) = p
+
 -- no two of the count entries have one id
 abbrev pub Distinct : List ℕ → ℕ → Type 0
 Distinct bytes count = (i j : ℕ) → i < count → j < count → idAt bytes i ≡ idAt bytes j → i ≡ j

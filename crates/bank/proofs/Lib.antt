@@ -1,7 +1,7 @@
 -- Laws that callers cite are in Laws and Found.
 --     Laws     which banks are set, the checks in front, a payload's part: new-valid, lent-same, lent-holds, whole-within,
 --              whole-part, whole-length, whole-at-end, refused-part
---     Found    what the search finds: found-entry, found-none, found-bad, found-known; found-distinct and found-rising, by which
+--     Found    what the search finds: found-entry, found-none, found-bad, found-known, found-absent; found-distinct and found-rising, by which
 --              each entry is found by its id; found-lent
 --     Steps    how one place decides the search, and the two loops a turn at a time
 pub mod Laws

@@ -18,11 +18,11 @@ use Rattle.bank.specs.Search.{halving, countFrom, upTo, decided, foundIn
 use Rattle.bank.specs.Loops.{settled}
 
 -- a byte up to 5 is a kind, one above is none
-record Known (n : ℕ) : Type 0 where
-  kind : EffectKind
-  same : kindOf n ≡ Kind kind
+pub record Known (n : ℕ) : Type 0 where
+  pub kind : EffectKind
+  pub same : kindOf n ≡ Kind kind
 
-known : (n : ℕ) → n ≤ 5 → Known n
+pub known : (n : ℕ) → n ≤ 5 → Known n
 unfolding kindOf
 known zero h = record { kind = _; same = refl }
 known (suc zero) h = record { kind = _; same = refl }
@@ -32,7 +32,7 @@ known (suc (suc (suc (suc zero)))) h = record { kind = _; same = refl }
 known (suc (suc (suc (suc (suc zero))))) h = record { kind = _; same = refl }
 known (suc (suc (suc (suc (suc (suc n)))))) h = absurd (lt-irrefl 0 (omega arith))
 
-unknown : (n : ℕ) → 5 < n → kindOf n ≡ Unknown
+pub unknown : (n : ℕ) → 5 < n → kindOf n ≡ Unknown
 unfolding kindOf
 unknown n h =
     rw (ne-eqb n 0 (λ e. omega arith), ne-eqb n 1 (λ e. omega arith), ne-eqb n 2 (λ e. omega arith), ne-eqb n 3 (λ e. omega arith), ne-eqb n 4 (λ e. omega arith), ne-eqb n 5 (λ e. omega arith))

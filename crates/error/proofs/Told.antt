@@ -21,8 +21,10 @@ refusal-number E.InvalidEffectKind = refl
 refusal-number E.NotCarried = refl
 refusal-number E.BadSum = refl
 refusal-number E.LowRate = refl
+refusal-number E.BadEntries = refl
+refusal-number E.ShortBuffer = refl
 
-pub number-refusal : (n : ℕ) → 1 ≤ n → n ≤ 12 → numberOf (refusal n) ≡ n
+pub number-refusal : (n : ℕ) → 1 ≤ n → n ≤ 14 → numberOf (refusal n) ≡ n
 number-refusal zero h k = absurd (lt-irrefl 0 (omega arith))
 number-refusal (suc zero) h k = refl
 number-refusal (suc (suc zero)) h k = refl
@@ -36,7 +38,9 @@ number-refusal (suc (suc (suc (suc (suc (suc (suc (suc (suc zero))))))))) h k = 
 number-refusal (suc (suc (suc (suc (suc (suc (suc (suc (suc (suc zero)))))))))) h k = refl
 number-refusal (suc (suc (suc (suc (suc (suc (suc (suc (suc (suc (suc zero))))))))))) h k = refl
 number-refusal (suc (suc (suc (suc (suc (suc (suc (suc (suc (suc (suc (suc zero)))))))))))) h k = refl
-number-refusal (suc (suc (suc (suc (suc (suc (suc (suc (suc (suc (suc (suc (suc n))))))))))))) h k = absurd (lt-irrefl 0 (omega arith))
+number-refusal (suc (suc (suc (suc (suc (suc (suc (suc (suc (suc (suc (suc (suc zero))))))))))))) h k = refl
+number-refusal (suc (suc (suc (suc (suc (suc (suc (suc (suc (suc (suc (suc (suc (suc zero)))))))))))))) h k = refl
+number-refusal (suc (suc (suc (suc (suc (suc (suc (suc (suc (suc (suc (suc (suc (suc (suc n))))))))))))))) h k = absurd (lt-irrefl 0 (omega arith))
 
 -- an answer that tells a valid t
 pub answered : {A R : Type 0} {told : R → Told A} {Valid : A → Type 0} {t : Told A} {r : R} → told r ≡ t → ValidTold Valid t → Answered told Valid t r

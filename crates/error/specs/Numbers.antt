@@ -17,3 +17,5 @@ numberOf E.NotCarried = 10
 numberOf E.BadSum = 11
 -- document 02: "Numbers that requests add join 01's table"
 numberOf E.LowRate = 12
+numberOf E.BadEntries = 13
+numberOf E.ShortBuffer = 14

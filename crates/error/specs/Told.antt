@@ -39,7 +39,9 @@ refusal n =
     (cond (eqb n 8) E.EffectNotFound
     (cond (eqb n 9) E.InvalidEffectKind
     (cond (eqb n 10) E.NotCarried
-    (cond (eqb n 11) E.BadSum E.LowRate))))))))))
+    (cond (eqb n 11) E.BadSum
+    (cond (eqb n 12) E.LowRate
+    (cond (eqb n 13) E.BadEntries E.ShortBuffer))))))))))))
 
 -- what holds of a value; of a refusal there is nothing to hold
 abbrev pub ValidTold : {A : Type 0} → (A → Type 0) → Told A → Type 0

@@ -16,6 +16,8 @@ pub enum AudioError {
     NotCarried,
     BadSum,
     LowRate,
+    BadEntries,
+    ShortBuffer,
 }
 
 impl AudioError {
@@ -35,6 +37,8 @@ impl AudioError {
             AudioError::NotCarried => 10,
             AudioError::BadSum => 11,
             AudioError::LowRate => 12,
+            AudioError::BadEntries => 13,
+            AudioError::ShortBuffer => 14,
         }
     }
 }

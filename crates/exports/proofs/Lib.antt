@@ -1,7 +1,9 @@
 -- How the calls for other languages are proved.
+--     Banked   what a call that wrote a bank tells
 --     Cells    a run's values, one to a cell
 --     Laws     what callers cite: a payload that is there is within the bytes
 --     Ready    what a call answers, by what readying its engine gave
+mod Banked
 mod Cells
 pub mod Laws
 mod Ready

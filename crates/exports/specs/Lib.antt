@@ -5,6 +5,7 @@
 --     Lengths   lengths with what is left over
 --     Signals   the evacuation pattern and its reader
 --     Banks     a bank that is set for one call
+--     Writing   a bank that is written
 --     Plays     an engine that lives for one call
 pub mod Told
 pub mod Leaves
@@ -12,4 +13,5 @@ pub mod Levels
 pub mod Lengths
 pub mod Signals
 pub mod Banks
+pub mod Writing
 pub mod Plays

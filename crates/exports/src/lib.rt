@@ -6,3 +6,4 @@ mod levels;
 mod planned;
 mod plays;
 mod signals;
+mod writing;

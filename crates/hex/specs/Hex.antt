@@ -6,6 +6,7 @@ use mathlib.Core.List.{List, [], _∷_, _++_}
 use lib.Dec.{leb, ltb}
 use lib.ListN.{length, getD, take}
 use lib.Seq.{sets}
+use Rattle.laws.specs.Runs.{given}
 
 unfoldable pub between : ℕ → ℕ → ℕ → Bool
 between lo hi c = leb lo c && leb c hi
@@ -34,6 +35,10 @@ longAt l k = 65536 * wideAt l k + wideAt l (k + 2)
 
 abbrev pub threeAt : List ℕ → ℕ → ℕ
 threeAt l k = 256 * wideAt l k + byteAt l (k + 2)
+
+-- so many bytes from byte k on
+abbrev pub bytesFrom : List ℕ → ℕ → ℕ → List ℕ
+bytesFrom l k n = given suc (λ (i : ℕ). byteAt l i ∷ []) n k
 
 abbrev pub digitChar : ℕ → ℕ
 digitChar n = cond (ltb n 10) (48 + n) (55 + n)

@@ -3,9 +3,10 @@ ghost use mathlib.Core.Path.{_≡_};
 ghost use mathlib.Core.List.{_++_};
 ghost use Prim.Native.Nat.{_+_, _≤_, _<_};
 ghost use lib.ListN.{getD};
+ghost use lib.Seq.{sets};
 ghost use mir.Syntax.{w16, w32, w64};
 ghost use mir.Val.{toZ, ofZ};
-ghost use Rattle.hex.specs.Hex.{isDigit, allDigits, digitOf, byteAt, wideAt, longAt, threeAt, digitChar, hexOf, fourOf, newline, Laid, Wrote};
+ghost use Rattle.hex.specs.Hex.{isDigit, allDigits, digitOf, byteAt, wideAt, longAt, threeAt, bytesFrom, digitChar, hexOf, fourOf, newline, Laid, Wrote};
 
 fn is_digit(c: u8) -> bool
     ensures { λ r. ⌜ r ≡ isDigit c ⌝ }
@@ -82,6 +83,16 @@ pub fn three_at(l: &[u8], k: usize) -> u32
         return 0;
     }
     256 * (wide_at(l, k) as u32) + (byte_at(l, k + 2) as u32)
+}
+
+// So many bytes of a line from byte k on, into as many cells.
+pub fn bytes_from(l: &[u8], k: usize, n: usize, cells: &mut [u8; 4096])
+    requires { ⌜ (k ≤ 4096) × (n ≤ 4096) ⌝ }
+    ensures { λ _. ⌜ now (cells .exit) ≡ sets (now (cells .entry)) 0 (bytesFrom (now (l .entry)) k n) ⌝ }
+{
+    for i in 0..n {
+        cells[i] = byte_at(l, k + i);
+    }
 }
 
 // Two's complement, read and written; a byte's is in fixed.

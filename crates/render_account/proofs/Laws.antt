@@ -21,7 +21,7 @@ use Rattle.render_account.specs.Account as T
 
 why-within : (n : ℕ) → length (T.whyText n) ≤ 55
 unfolding T.whyText
-why-within n = search (words-within, leb-true) depth 14
+why-within n = search (words-within, leb-true) depth 16
 
 end-within : (n : ℕ) → length (T.endText n) ≤ 89
 unfolding T.endText

@@ -29,7 +29,9 @@ whyText n =
     (cond (eqb n 10) (words "the entry is of a kind that is not carried")
     (cond (eqb n 11) (words "a sum outside the limiter's range")
     (cond (eqb n 12) (words "a rate below 20 Hz")
-    (words "a number without words"))))))))))))
+    (cond (eqb n 13) (words "the entries do not make a bank")
+    (cond (eqb n 14) (words "the buffer is too short")
+    (words "a number without words"))))))))))))))
 
 -- the end of a line: nothing more where a call was accepted
 unfoldable pub endText : ℕ → List ℕ

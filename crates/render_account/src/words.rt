@@ -31,6 +31,8 @@ fn why(t: Text, number: u8) -> Text
         10 => say(t, b"the entry is of a kind that is not carried"),
         11 => say(t, b"a sum outside the limiter's range"),
         12 => say(t, b"a rate below 20 Hz"),
+        13 => say(t, b"the entries do not make a bank"),
+        14 => say(t, b"the buffer is too short"),
         _ => say(t, b"a number without words"),
     }
 }

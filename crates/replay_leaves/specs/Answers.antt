@@ -10,8 +10,9 @@ use Rattle.replay_leaves.specs.Runs.{levelsText, stateText, dutiesText}
 use Rattle.replay_leaves.specs.Sounds.{sourceText, restoredText}
 use Rattle.replay_leaves.specs.Voices.{voiceText}
 use Rattle.replay_patterns.specs.Records.{patternText, readerText}
+use Rattle.replay_banks.specs.Record.{bankText}
 use Rattle.replay_leaves.specs.declared.Reply.{Reply}
-use Rattle.replay_leaves.specs.declared.Reply.the-variants.{Bad, Word, Levels, State, Duties, Source, Voice, Restored, Pattern, Recording}
+use Rattle.replay_leaves.specs.declared.Reply.the-variants.{Bad, Word, Levels, State, Duties, Source, Voice, Restored, Pattern, Recording, Bank}
 use Rattle.replay_leaves.specs.declared.Answered.{Answered}
 
 -- a bad line "prints FFFF"
@@ -26,6 +27,7 @@ textOf Voice l = voiceText l
 textOf Restored l = restoredText l
 textOf Pattern l = patternText l
 textOf Recording l = readerText l
+textOf Bank l = bankText l
 
 unfoldable pub replyText : List ℕ → List ℕ
 replyText l = textOf (replyOf l) l
@@ -42,6 +44,7 @@ goesOn Voice = true
 goesOn Restored = true
 goesOn Pattern = true
 goesOn Recording = true
+goesOn Bank = true
 
 -- the text stands before the rest of what the buffer held
 pub record Answers (l before after : List ℕ) (r : Answered) : Type 0 where

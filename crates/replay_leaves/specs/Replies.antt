@@ -23,7 +23,7 @@ use Rattle.tier.specs.declared.KindRead.{KindRead}
 use Rattle.tier.specs.declared.KindRead.the-variants.{Kind, Unknown}
 use Rattle.hex.specs.Hex.{allDigits, byteAt, wideAt, longAt}
 use Rattle.replay_leaves.specs.declared.Reply.{Reply}
-use Rattle.replay_leaves.specs.declared.Reply.the-variants.{Bad, Word, Levels, State, Duties, Source, Voice, Restored, Pattern, Recording}
+use Rattle.replay_leaves.specs.declared.Reply.the-variants.{Bad, Word, Levels, State, Duties, Source, Voice, Restored, Pattern, Recording, Bank}
 
 -- fields with a sign, in two's complement
 abbrev pub sampleAt : List ℕ → ℕ → ℤ
@@ -160,6 +160,11 @@ patternReply l = cond (leb (wideAt l 9) 2048) Pattern Bad
 unfoldable pub recordingReply : List ℕ → Reply
 recordingReply l = cond (ltb (length l) 10) Bad (cond (eqb (length l % 2) 1) Bad Recording)
 
+-- 83, write a bank: header (10), "room (2, at most 4,096)", count (1), count times thirteen bytes, then any number of bytes
+unfoldable pub bankReply : List ℕ → Reply
+bankReply l =
+    cond (ltb (length l) (28 + 26 * byteAt l 13)) Bad (cond (eqb (length l % 2) 1) Bad (cond (leb (wideAt l 11) 4096) Bank Bad))
+
 -- the records by their code, each with its length; any other code is bad
 abbrev pub replyFor : ℕ → List ℕ → Reply
 replyFor code l =
@@ -188,9 +193,10 @@ replyFor code l =
     (cond (eqb code 0x6A) (sized n 11 (restoredReply l))
     (cond (eqb code 0x80) (sized n 10 (patternReply l))
     (cond (eqb code 0x81) (recordingReply l)
+    (cond (eqb code 0x83) (bankReply l)
     (cond (eqb code 0x84) (sized n 6 (lengthReply l))
     (cond (eqb code 0x85) (sized n 10 (carryingReply l))
-    Bad)))))))))))))))))))))))))
+    Bad))))))))))))))))))))))))))
 
 -- "No good line is longer than 8,194 digits"; the first byte is the code
 unfoldable pub replyOf : List ℕ → Reply

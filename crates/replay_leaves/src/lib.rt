@@ -1,6 +1,6 @@
-// Answers to a script's lines: records 40 to 48 of the replay format and our own 50 to 6A, and 80, 81, 84 and 85.
+// Answers to a script's lines: records 40 to 48 of the replay format and our own 50 to 6A, and 80, 81 and 83 to 85.
 ghost use mathlib.Core.Path.{_≡_};
-ghost use Rattle.replay_leaves.specs.Replies.{sized, dutiesReply, replyFor, replyOf, patternReply, recordingReply};
+ghost use Rattle.replay_leaves.specs.Replies.{sized, dutiesReply, replyFor, replyOf, patternReply, recordingReply, bankReply};
 ghost use Rattle.replay_leaves.specs.Answers.{Answers};
 use hex::all_digits;
 use hex::byte_at;
@@ -25,6 +25,7 @@ pub enum Reply {
     Restored,
     Pattern,
     Recording,
+    Bank,
 }
 
 // How many bytes the answer has, and whether the run goes on.
@@ -87,6 +88,24 @@ fn recording_reply(l: &[u8]) -> Reply
     Reply::Recording
 }
 
+// 83 has as many entries as it says, and any number of bytes of payloads.
+fn bank_reply(l: &[u8]) -> Reply
+    ensures { λ r. ⌜ r ≡ bankReply (now (l .entry)) ⌝ }
+{
+    let n = l.len();
+    if n < 28 + 26 * (byte_at(l, 13) as usize) {
+        return Reply::Bad;
+    }
+    if n % 2 == 1 {
+        return Reply::Bad;
+    }
+    if wide_at(l, 11) <= 4096 {
+        Reply::Bank
+    } else {
+        Reply::Bad
+    }
+}
+
 // By the code. Each reader is total, so a record's length is looked at last.
 fn reply_for(code: u8, l: &[u8]) -> Reply
     ensures { λ r. ⌜ r ≡ replyFor code (now (l .entry)) ⌝ }
@@ -117,6 +136,7 @@ fn reply_for(code: u8, l: &[u8]) -> Reply
         0x6A => sized(n, 11, sounds::restored_reply(l)),
         0x80 => sized(n, 10, pattern_reply(l)),
         0x81 => recording_reply(l),
+        0x83 => bank_reply(l),
         0x84 => sized(n, 6, outputs::length(l)),
         0x85 => sized(n, 10, outputs::carrying(l)),
         _ => Reply::Bad,
@@ -184,6 +204,10 @@ pub fn answer(line: &[u8], out: &mut [u8; 262144]) -> Answered
         }
         Reply::Recording => {
             let len = replay_patterns::reader(line, out);
+            Answered { len, more: true }
+        }
+        Reply::Bank => {
+            let len = replay_banks::bank(line, out);
             Answered { len, more: true }
         }
     }

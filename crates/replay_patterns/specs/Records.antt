@@ -1,10 +1,9 @@
 -- Records 80 and 81 of the replay: the fields from byte 1 on, and what each prints. Assumes nothing.
-use Prim.Native.Nat.{ℕ, suc, _-_, _/_, min}
-use mathlib.Core.List.{List, [], _∷_, _++_}
+use Prim.Native.Nat.{ℕ, _-_, _/_, min}
+use mathlib.Core.List.{List, _++_}
 use lib.ListN.{length}
-use Rattle.laws.specs.Runs.{given}
 use Rattle.error.specs.Told.{Told, value, refused, andThen}
-use Rattle.hex.specs.Hex.{byteAt, wideAt, longAt, hexOf, newline}
+use Rattle.hex.specs.Hex.{wideAt, longAt, bytesFrom, hexOf, newline}
 use Rattle.replay_cells.specs.Cells.{byteText, cellsText}
 use Rattle.evacuation.specs.Pattern.{byteOf, samplesFrom}
 use Rattle.evacuation.specs.Reader.{wholeCycles}
@@ -22,13 +21,9 @@ unfoldable pub patternText : List ℕ → List ℕ
 patternText l = linesOf (andThen (openedAt (longAt l 1) (patternAt (longAt l 1))) (λ p. value (samplesAt (p .«sample_rate_hz») l)))
 
 -- 81, evacuation reader: "rate (4), then bytes (0 to 4,092) | number, then 01 whole cycles or 00 not (00 where refused)"
--- so many bytes from byte 5 on
-abbrev pub bytesFrom : List ℕ → ℕ → List ℕ
-bytesFrom l n = given suc (λ (k : ℕ). byteAt l k ∷ []) n 5
-
--- a line that has more of them is bad
+-- a line that has more bytes is bad
 abbrev pub recordingAt : List ℕ → List ℕ
-recordingAt l = bytesFrom l (min (length l / 2 - 5) 4092)
+recordingAt l = bytesFrom l 5 (min (length l / 2 - 5) 4092)
 
 abbrev pub lineOf : Told ℕ → List ℕ
 lineOf (value b) = hexOf 2 0 ++ hexOf 2 b ++ newline

@@ -2,18 +2,17 @@
 ghost use mathlib.Core.Path.{_≡_};
 ghost use mathlib.Core.List.{_++_};
 ghost use Prim.Native.Nat.{_-_, _/_, _≤_, min};
-ghost use Rattle.hex.specs.Hex.{hexOf, newline, Wrote};
+ghost use Rattle.hex.specs.Hex.{bytesFrom, hexOf, newline, Wrote};
 ghost use Rattle.error.specs.Told.{value};
 ghost use Rattle.evacuation.specs.Pattern.{byteOf};
 ghost use Rattle.evacuation.specs.Opened.{Valid, ValidReader};
 ghost use Rattle.evacuation.specs.Reader.{wholeCycles};
-ghost use lib.Seq.{sets};
-ghost use Rattle.replay_patterns.specs.Records.{samplesAt, linesOf, patternText, bytesFrom, readerText};
+ghost use Rattle.replay_patterns.specs.Records.{samplesAt, linesOf, patternText, readerText};
 use evacuation::Pattern;
 use evacuation::PatternOpened;
 use evacuation::Reader;
 use evacuation::ReaderOpened;
-use hex::byte_at;
+use hex::bytes_from;
 use hex::end_line;
 use hex::long_at;
 use hex::put;
@@ -53,22 +52,12 @@ pub fn pattern(l: &[u8], out: &mut [u8; 262144]) -> usize
     }
 }
 
-// The bytes of a line from its fifth on, into as many cells.
-fn recorded(l: &[u8], n: usize, cells: &mut [u8; 4092])
-    requires { ⌜ n ≤ 4092 ⌝ }
-    ensures { λ _. ⌜ now (cells .exit) ≡ sets (now (cells .entry)) 0 (bytesFrom (now (l .entry)) n) ⌝ }
-{
-    for i in 0..n {
-        cells[i] = byte_at(l, 5 + i);
-    }
-}
-
 fn read(l: &[u8], n: usize, r: Reader) -> bool
     requires { ⌜ ValidReader r × (n ≤ 4092) ⌝ }
-    ensures { λ x. ⌜ x ≡ wholeCycles (r .«sample_rate_hz») (bytesFrom (now (l .entry)) n) ⌝ }
+    ensures { λ x. ⌜ x ≡ wholeCycles (r .«sample_rate_hz») (bytesFrom (now (l .entry)) 5 n) ⌝ }
 {
-    let mut cells = [0u8; 4092];
-    recorded(l, n, &mut cells);
+    let mut cells = [0u8; 4096];
+    bytes_from(l, 5, n, &mut cells);
     r.whole_cycles(&cells[..n])
 }
 

@@ -16,11 +16,13 @@ mod player;
 pub mod raw;
 mod refusal;
 mod script;
+mod writing;
 
 pub use bank::{Bank, Entry};
 pub use player::{DutyMode, Played, Player, Policy, PolyBlep, Request, Waveform};
 pub use refusal::Refusal;
 pub use script::{Ran, answers, answers_of, sound, sound_of};
+pub use writing::{NewEntry, bank_of, write_bank};
 
 /// A sample by a gain in 256ths, floored.
 pub fn gain(sample: i8, gain_q8: u8) -> i8 {

@@ -72,6 +72,16 @@ unsafe extern "C" {
         id: u16,
         out: *mut [u32; 2],
     ) -> u8;
+    pub fn birchjack_write_bank(
+        header: *const [u8; 10],
+        entries: *const u8,
+        entries_len: usize,
+        payloads: *const u8,
+        payloads_len: usize,
+        out: *mut u8,
+        out_len: usize,
+        len: *mut usize,
+    ) -> u8;
     pub fn birchjack_play(
         n: usize,
         free_only: bool,

@@ -18,11 +18,13 @@ pub enum Refusal {
     NotCarried = 10,
     BadSum = 11,
     LowRate = 12,
+    BadEntries = 13,
+    ShortBuffer = 14,
 }
 
 impl Refusal {
     /// Every refusal, in the order of its number.
-    pub const ALL: [Refusal; 12] = [
+    pub const ALL: [Refusal; 14] = [
         Refusal::VoiceCount,
         Refusal::BadRate,
         Refusal::BadPeriod,
@@ -35,6 +37,8 @@ impl Refusal {
         Refusal::NotCarried,
         Refusal::BadSum,
         Refusal::LowRate,
+        Refusal::BadEntries,
+        Refusal::ShortBuffer,
     ];
 
     /// Document 01's number.
@@ -46,7 +50,7 @@ impl Refusal {
     ///
     /// # Panics
     ///
-    /// Above 12, which no call answers (`error/specs/Numbers.antt`).
+    /// Above 14, which no call answers (`error/specs/Numbers.antt`).
     pub(crate) fn read(number: u8) -> Result<(), Refusal> {
         match number {
             0 => Ok(()),
@@ -70,6 +74,8 @@ impl fmt::Display for Refusal {
             Refusal::NotCarried => "an entry of a kind with stored samples",
             Refusal::BadSum => "a sum outside -2,048..2,032",
             Refusal::LowRate => "an evacuation pattern or its reader at a rate below 20",
+            Refusal::BadEntries => "more than 64 entries, a kind above 5, a payload over 65,535 bytes, other lengths than lent, or an id twice",
+            Refusal::ShortBuffer => "a buffer shorter than what is written to it",
         })
     }
 }

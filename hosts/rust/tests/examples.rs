@@ -1,7 +1,8 @@
 //! Document 01's checked examples and its refusals, through the library.
 
 use birchjack::{
-    Bank, DutyMode, Envelope, Played, Player, Policy, PolyBlep, Refusal, Request, Waveform,
+    Bank, DutyMode, Envelope, NewEntry, Played, Player, Policy, PolyBlep, Refusal, Request,
+    Waveform, bank_of, write_bank,
 };
 
 const CLICK: Envelope = Envelope {
@@ -204,6 +205,96 @@ fn an_envelope_alone() {
     let mut held = [9; 2];
     assert_eq!(e.levels(65_538, &mut held, &mut []), Err(Refusal::BadRate));
     assert_eq!(held, [9; 2]);
+}
+
+fn new_entry(id: u16, payload: &[u8]) -> NewEntry<'_> {
+    NewEntry {
+        id,
+        kind: 3,
+        flags: 1,
+        default_gain_q8: 200,
+        param0: 440,
+        param1: 150,
+        payload,
+    }
+}
+
+#[test]
+fn a_bank_is_written() {
+    let header = [9; 10];
+    let given = [
+        (900, &[1, 2, 3][..]),
+        (7, &[]),
+        (65_535, &[4]),
+        (0, &[5, 6]),
+    ];
+    let entries = given.map(|(id, payload)| new_entry(id, payload));
+    let bytes = bank_of(&header, &entries).unwrap();
+    assert_eq!(bytes[..10], header);
+    assert_eq!(bytes[74..], [5, 6, 1, 2, 3, 4]);
+    let bank = Bank {
+        bytes: &bytes,
+        sample_rate_hz: 65_537,
+        effect_count: 4,
+    };
+    for (id, payload) in given {
+        let e = bank.find(id).unwrap();
+        assert_eq!((e.kind, e.flags, e.default_gain_q8), (3, 1, 200));
+        assert_eq!((e.param0, e.param1), (440, 150));
+        assert_eq!(bank.payload(e.offset, e.len), Ok(payload));
+    }
+    assert_eq!(bank.find(8), Err(Refusal::EffectNotFound));
+    for turned in [[3, 2, 1, 0], [1, 0, 3, 2], [2, 3, 0, 1]] {
+        assert_eq!(
+            bank_of(&header, &turned.map(|at| entries[at])),
+            Ok(bytes.clone())
+        );
+    }
+
+    // a byte too short, and two behind the bank
+    let mut cells = [0xA5; 82];
+    assert_eq!(
+        write_bank(&header, &entries, &mut cells[..79]),
+        Err(Refusal::ShortBuffer)
+    );
+    assert_eq!(cells, [0xA5; 82]);
+    assert_eq!(write_bank(&header, &entries, &mut cells), Ok(80));
+    assert_eq!(cells[..80], bytes);
+    assert_eq!(cells[80..], [0xA5; 2]);
+}
+
+#[test]
+fn what_makes_no_bank() {
+    let header = [0; 10];
+    let refused = Err(Refusal::BadEntries);
+    let longest = vec![7; 65_536];
+    let whole = bank_of(&header, &[new_entry(3, &longest[1..])]).unwrap();
+    assert_eq!(whole[26..], longest[1..]);
+    assert_eq!(bank_of(&header, &[new_entry(3, &longest)]), refused);
+    assert_eq!(
+        bank_of(&header, &[new_entry(3, &[]), new_entry(3, &[1])]),
+        refused
+    );
+    let odd = NewEntry {
+        kind: 6,
+        ..new_entry(3, &[])
+    };
+    assert_eq!(bank_of(&header, &[odd]), refused);
+    let many: Vec<NewEntry> = (0..65)
+        .rev()
+        .map(|id| new_entry(id, &longest[1..]))
+        .collect();
+    assert_eq!(bank_of(&header, &many), refused);
+    assert_eq!(
+        bank_of(&header, &many[..64]).unwrap().len(),
+        10 + 64 * (16 + 65_535)
+    );
+    // 13 is looked for first
+    assert_eq!(
+        write_bank(&header, &many, &mut []),
+        refused.map(|_: Vec<u8>| 0)
+    );
+    assert_eq!(write_bank(&header, &[], &mut []), Err(Refusal::ShortBuffer));
 }
 
 #[test]

@@ -32,6 +32,8 @@ mod sets;
 mod signals;
 #[path = "generate/sources.rs"]
 mod sources;
+#[path = "generate/writing.rs"]
+mod writing;
 
 use script::Script;
 

@@ -60,6 +60,11 @@ returns-10 c =
     let t = c .before .before in
     done (search needs) (sym (t .before .before .reply-of .ensures) ∙ t .enum-told9 .given .1) (c .reader .ensures)
 
+returns-11 : tie.Need-returns-11
+returns-11 c =
+    let t = c .before .before in
+    done (search needs) (sym (t .before .before .reply-of .ensures) ∙ t .enum-told10 .given .1) (c .bank .ensures)
+
 pub answer-spec : {M : Type 1} → statement M
 answer-spec =
     tie.close
@@ -86,6 +91,8 @@ answer-spec =
     (λ c κs. search needs)
     (λ c. search needs)
     (λ c κs. search needs)
+    (λ c. search needs)
+    (λ c κs. search needs)
     returns
     returns-2
     returns-3
@@ -95,4 +102,5 @@ answer-spec =
     returns-7
     returns-8
     returns-9
-    returns-10)
+    returns-10
+    returns-11)

@@ -7,9 +7,8 @@ use native.Mathlib.Omega.{arith}
 use lib.ListN.{length, take, drop, length-replicate}
 use lib.Seq.{sets, length-sets, length-take-le, take-at}
 use Rattle.laws.proofs.Stores.{length-cells, sets-front}
-use Rattle.hex.specs.Hex.{byteAt}
+use Rattle.hex.specs.Hex.{byteAt, bytesFrom}
 use Rattle.evacuation.specs.Reader.{wholeCycles}
-use Rattle.replay_patterns.specs.Records.{bytesFrom}
 use Rattle.replay_patterns.proofs.read.Statement.{statement}
 use Rattle.replay_patterns.proofs.read.Tie as tie
 
@@ -17,14 +16,14 @@ use Rattle.replay_patterns.proofs.read.Tie as tie
 taken : (before xs : List ℕ) (n : ℕ) → length xs ≡ n → n ≤ length before → take n (sets before 0 xs) ≡ xs
 taken before xs n e h = rw (sets-front before xs n e h) (take-at xs (drop n before) n e)
 
-full : (c : tie.After-recorded) → length (c .recorded .last .1 .1 .0) ≡ 4092
-full c = ap length (c .recorded .ensures) ∙ simp (length-sets, length-replicate)
+full : (c : tie.After-bytes-from) → length (c .bytes-from .last .1 .1 .1 .0) ≡ 4096
+full c = ap length (c .bytes-from .ensures) ∙ simp (length-sets, length-replicate)
 
-fits : (c : tie.After-recorded) → c .before .before .before .args .n ≤ length (c .recorded .last .1 .1 .0)
-fits c = rw (full c) (c .before .before .before .pre .1)
+fits : (c : tie.After-bytes-from) → c .before .before .before .args .n ≤ length (c .bytes-from .last .1 .1 .1 .0)
+fits c = rw (full c) (omega (arith, c .before .before .before .pre .1))
 
 slice-aggregate-whole-cycles : tie.Need-slice-aggregate-whole-cycles
-slice-aggregate-whole-cycles c = sym (length-take-le (c .before .before .before .before .args .n) (c .before .recorded .last .1 .1 .0) (fits (c .before)))
+slice-aggregate-whole-cycles c = sym (length-take-le (c .before .before .before .before .args .n) (c .before .bytes-from .last .1 .1 .1 .0) (fits (c .before)))
 
 returns : tie.Need-returns
 returns c =
@@ -33,8 +32,8 @@ returns c =
     let l = a .args .l .now in
     c .whole-cycles .ensures
     ∙ ap (wholeCycles (a .args .r .«sample_rate_hz»))
-    (rw (d .recorded .ensures)
-    (taken _ (bytesFrom l (a .args .n)) (a .args .n) (length-cells suc (λ (k : ℕ). byteAt l k) (a .args .n) 5) (rw length-replicate (a .pre .1))))
+    (rw (d .bytes-from .ensures)
+    (taken _ (bytesFrom l 5 (a .args .n)) (a .args .n) (length-cells suc (λ (k : ℕ). byteAt l k) (a .args .n) 5) (rw length-replicate (omega (arith, a .pre .1)))))
 
 pub read-spec : {M : Type 1} → statement M
-read-spec = tie.close (tie.spec (λ c κs. search needs) fits slice-aggregate-whole-cycles (λ c κs. search needs) returns)
+read-spec = tie.close (tie.spec (λ c κs. (omega arith, omega (arith, c .before .before .pre .1))) fits slice-aggregate-whole-cycles (λ c κs. search needs) returns)

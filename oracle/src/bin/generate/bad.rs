@@ -5,10 +5,11 @@ use crate::enginebad::{ENGINE, FRAMES, OPEN_PRESENT};
 use crate::random::{self, RECORDS};
 use crate::script::{Line, Script, mapper};
 use crate::signals;
+use crate::writing;
 
 const LONGEST: usize = 8_194;
 
-const BAD: [fn(&mut Draw) -> Line; 9] = [
+const BAD: [fn(&mut Draw) -> Line; 11] = [
     unknown_code,
     short,
     long,
@@ -18,6 +19,8 @@ const BAD: [fn(&mut Draw) -> Line; 9] = [
     over_long,
     bad_mode,
     too_many_samples,
+    too_much_room,
+    too_few_entries,
 ];
 
 pub fn print(script: &mut Script, seed: u64, count: u32) {
@@ -49,11 +52,12 @@ fn unknown_code(draw: &mut Draw) -> Line {
     line
 }
 
-/// The digits of a record's first fields where any number of bytes may come after them: samples of a mapper, a recording.
+/// The digits of a record's first fields where any number of bytes may come after them: samples of a mapper, a recording, payloads.
 fn open_ended(line: &Line) -> Option<u32> {
     match &line[..2] {
         b"57" => Some(16),
         b"81" => Some(10),
+        b"83" => Some(28),
         _ => None,
     }
 }
@@ -118,4 +122,15 @@ fn too_many_samples(draw: &mut Draw) -> Line {
     let beyond = 2_049 + draw.below(63_487) as u16;
     let (rate, first) = (draw.rate(), draw.u32());
     signals::pattern(rate, first, draw.pick(&[2_049, 65_535, beyond]))
+}
+
+/// A bank for a buffer of more than 4,096 bytes, whatever it would hold.
+fn too_much_room(draw: &mut Draw) -> Line {
+    let beyond = 4_097 + draw.below(61_439) as u16;
+    writing::with_room(draw, &[4_097, 65_535, beyond])
+}
+
+/// More entries than the line has bytes for.
+fn too_few_entries(draw: &mut Draw) -> Line {
+    writing::cut_short(draw)
 }

@@ -5,13 +5,14 @@ use crate::lengths;
 use crate::script::{Envelope, Line, i8, i32, mapper, record, u8, u16, u32};
 use crate::signals;
 use crate::sources;
+use crate::writing;
 
 type Drawn = fn(&mut Draw) -> Line;
 
 pub const MOST_SAMPLES: u32 = 4_089;
 
 /// Every record that is read today; those of the present rules last.
-pub const RECORDS: [(u8, Drawn); 27] = [
+pub const RECORDS: [(u8, Drawn); 28] = [
     (0x40, |d| record(0x40, &[i8(d.i8()), u8(d.u8())])),
     (0x41, |d| {
         record(0x41, &[i8(d.i8()), i8(d.i8()), u8(d.u8())])
@@ -40,12 +41,13 @@ pub const RECORDS: [(u8, Drawn); 27] = [
     (0x6A, sources::any_restored),
     (0x80, signals::any_pattern),
     (0x81, signals::any_reader),
+    (0x83, writing::any_bank),
     (0x84, lengths::any_length),
     (0x85, lengths::any_carrying),
     (0x82, |d| record(0x82, &[i8(d.i8()), u8(d.gain())])),
 ];
 
-const BEFORE_PRESENT: usize = 26;
+const BEFORE_PRESENT: usize = 27;
 
 pub fn any(draw: &mut Draw) -> Line {
     let drawn = match draw.present {

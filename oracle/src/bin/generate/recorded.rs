@@ -10,6 +10,7 @@ use crate::script::{Script, i8, mapper, u8, u16, u32};
 use crate::sets;
 use crate::signals;
 use crate::sources;
+use crate::writing;
 
 /// With an engine's records, with or without frames, where they are asked for. What the present rules add comes after the rest, which
 /// is the same without them.
@@ -31,6 +32,7 @@ pub fn print(script: &mut Script, frames: Option<bool>) {
     sources::recorded(script);
     signals::recorded(script);
     lengths::recorded(script);
+    writing::recorded(script);
     let mut draw = Draw::modest(1);
     for _ in 0..5_000 {
         script.add(&random::any(&mut draw));

@@ -6,6 +6,7 @@ use crate::random::MOST_SAMPLES;
 use crate::script::{Envelope, Script, i8, i32, mapper as mapper_record, u8, u16, u32};
 use crate::signals;
 use crate::sources;
+use crate::writing;
 use oracle::fixed::db_to_q8;
 
 /// How many floats the db set spreads over all bit patterns if not told.
@@ -13,7 +14,7 @@ pub const FLOATS: u32 = 2_000_000;
 
 type Print = fn(&mut Script, u32);
 
-pub const SETS: [(&str, Print); 21] = [
+pub const SETS: [(&str, Print); 22] = [
     ("gain", |script, _| gain(script, 0x40)),
     ("sine", |script, _| bytes(script, 0x45)),
     ("pan", |script, _| bytes(script, 0x43)),
@@ -38,6 +39,7 @@ pub const SETS: [(&str, Print); 21] = [
     ("pattern", |script, _| signals::patterns(script)),
     ("reader", |script, _| signals::readers(script)),
     ("length", |script, _| lengths::lengths(script)),
+    ("writing", |script, _| writing::banks(script)),
 ];
 
 /// Those of the present rules.

@@ -12,6 +12,8 @@ pub const INVALID_KIND: i64 = 9;
 pub const NOT_CARRIED: i64 = 10;
 pub const BAD_SUM: i64 = 11;
 pub const LOW_RATE: i64 = 12;
+pub const BAD_ENTRIES: i64 = 13;
+pub const SHORT_BUFFER: i64 = 14;
 
 pub const MOST_VOICES: u8 = 16;
 pub const HIGHEST_RATE: u32 = 65_537;

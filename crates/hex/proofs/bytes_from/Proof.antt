@@ -1,25 +1,27 @@
--- `replay_patterns::recorded` meets its contract: what is stored so far is the first i bytes. The measure is the stores left.
+-- `hex::bytes_from` meets its contract: what is stored so far is the first i bytes. The measure is the stores left.
 use mathlib.Core.Path.{_≡_}
 use Prim.Native.Nat.{ℕ, suc, _+_, _-_, _≤_}
+use native.Mathlib.Nat.{add-zero}
 use native.Mathlib.Omega.{arith}
 use Rattle.laws.proofs.Stores.{Wrote, wrote-none, front-one}
 use Rattle.hex.specs.Hex.{byteAt}
-use Rattle.replay_patterns.proofs.recorded.Statement.{statement}
-use Rattle.replay_patterns.proofs.recorded.Tie as tie
+use Rattle.hex.proofs.bytes_from.Statement.{statement}
+use Rattle.hex.proofs.bytes_from.Tie as tie
 
 abbrev Inv-loop : tie.InvT-loop
-Inv-loop l n cells₀ i₀ cells i = (i ≤ n) × Wrote suc (λ (k : ℕ). byteAt l k) 5 cells₀ 0 i (5 + i) cells
+Inv-loop l k n cells₀ i₀ cells i = (i ≤ n) × Wrote suc (λ (j : ℕ). byteAt l j) k cells₀ 0 i (k + i) cells
 
 abbrev μ-loop : tie.MeasureT-loop
-μ-loop l n cells₀ i₀ cells i = n - i
+μ-loop l k n cells₀ i₀ cells i = n - i
 
 loop-holds : tie.Need-loop-holds Inv-loop μ-loop
-loop-holds c = (omega arith, wrote-none _ _)
+loop-holds c = (omega arith, rw (add-zero (c .before .args .k)) (wrote-none _ _))
 
 loop-again : tie.Need-loop-again Inv-loop μ-loop
 loop-again c =
     let l = c .before .before in
-    let e : 5 + (l .loop .i + 1) ≡ suc (5 + l .loop .i) = omega arith in
+    let k = l .before .before .args .k in
+    let e : k + (l .loop .i + 1) ≡ suc (k + l .loop .i) = omega arith in
     (omega (arith, c .before .loop-test .taken), rw (c .byte-at .ensures, e) (front-one _ _ (l .loop .inv .1)))
 
 returns : tie.Need-returns Inv-loop μ-loop
@@ -28,8 +30,8 @@ returns c =
     let e : l .loop .i ≡ l .before .before .args .n = omega (arith, l .loop .inv .0, c .loop-test .left) in
     rw (← e) (l .loop .inv .1 .stored)
 
-pub recorded-spec : {M : Type 1} → statement M
-recorded-spec =
+pub bytes-from-spec : {M : Type 1} → statement M
+bytes-from-spec =
     tie.close
     (tie.spec
     Inv-loop

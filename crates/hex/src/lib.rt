@@ -1,7 +1,7 @@
 // Digits of a line, and answers as digits.
 ghost use mathlib.Core.Path.{_≡_};
 ghost use mathlib.Core.List.{_++_};
-ghost use Prim.Native.Nat.{_+_, _≤_, _<_};
+ghost use Prim.Native.Nat.{_+_, _≤_, _<_, min};
 ghost use lib.ListN.{getD};
 ghost use lib.Seq.{sets};
 ghost use mir.Syntax.{w16, w32, w64};
@@ -85,13 +85,19 @@ pub fn three_at(l: &[u8], k: usize) -> u32
     256 * (wide_at(l, k) as u32) + (byte_at(l, k + 2) as u32)
 }
 
-// So many bytes of a line from byte k on, into as many cells.
-pub fn bytes_from(l: &[u8], k: usize, n: usize, cells: &mut [u8; 4096])
-    requires { ⌜ (k ≤ 4096) × (n ≤ 4096) ⌝ }
-    ensures { λ _. ⌜ now (cells .exit) ≡ sets (now (cells .entry)) 0 (bytesFrom (now (l .entry)) k n) ⌝ }
+fn at_most_4096(n: usize) -> usize
+    ensures { λ r. ⌜ (r ≡ min n 4096) × (r ≤ 4096) ⌝ }
 {
-    for i in 0..n {
-        cells[i] = byte_at(l, k + i);
+    if n < 4096 { n } else { 4096 }
+}
+
+// So many bytes of a line from byte k on, into as many cells; no more than there are cells.
+pub fn bytes_from(l: &[u8], k: u8, n: usize, cells: &mut [u8; 4096])
+    ensures { λ _. ⌜ now (cells .exit) ≡ sets (now (cells .entry)) 0 (bytesFrom (now (l .entry)) k (min n 4096)) ⌝ }
+{
+    let m = at_most_4096(n);
+    for i in 0..m {
+        cells[i] = byte_at(l, (k as usize) + i);
     }
 }
 

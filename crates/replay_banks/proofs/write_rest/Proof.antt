@@ -1,20 +1,15 @@
 -- `replay_banks::write_rest` meets its contract: the cells lent are the bytes that were stored.
 use borrow.Author.Needs.{needs}
 use mathlib.Core.Path.{_≡_, sym, ap, _∙_}
-use mathlib.Core.List.{List}
-use Prim.Native.Nat.{ℕ, suc, _≤_}
+use Prim.Native.Nat.{ℕ, _≤_}
 use native.Mathlib.Omega.{arith}
-use lib.ListN.{length, take, drop, length-replicate}
-use lib.Seq.{sets, length-sets, length-take-le, take-at}
-use Rattle.laws.proofs.Stores.{length-cells, sets-front}
-use Rattle.hex.specs.Hex.{byteAt, bytesFrom}
+use lib.ListN.{length, take, length-replicate}
+use lib.Seq.{length-sets, length-take-le}
+use Rattle.hex.specs.Hex.{bytesFrom}
+use Rattle.hex.proofs.Front.{front-bytes}
 use Rattle.replay_banks.specs.Record.{restAt}
 use Rattle.replay_banks.proofs.write_rest.Statement.{statement}
 use Rattle.replay_banks.proofs.write_rest.Tie as tie
-
--- what was stored at the front is what is taken there
-taken : (before xs : List ℕ) (n : ℕ) → length xs ≡ n → n ≤ length before → take n (sets before 0 xs) ≡ xs
-taken before xs n e h = rw (sets-front before xs n e h) (take-at xs (drop n before) n e)
 
 full : (c : tie.After-bytes-from) → length (c .bytes-from .last .1 .1 .1 .0) ≡ 4096
 full c = ap length (c .bytes-from .ensures) ∙ simp (length-sets, length-replicate)
@@ -36,8 +31,7 @@ returns c =
     let l = r .before .before .before .args .l .now in
     let n = r .rest-len .result in
     let e : take n (d .bytes-from .last .1 .1 .1 .0) ≡ restAt l =
-    rw (d .bytes-from .ensures)
-    (taken _ (bytesFrom l 14 n) n (length-cells suc (λ (k : ℕ). byteAt l k) n 14) (rw length-replicate (omega (arith, few r))))
+    rw (d .bytes-from .ensures) (front-bytes l _ 14 n (omega (arith, few r)) (rw length-replicate (omega (arith, few r))))
     ∙ ap (λ (k : ℕ). bytesFrom l 14 k) (r .rest-len .ensures) in
     rw e at (w .write .ensures)
 
@@ -46,7 +40,7 @@ write-rest-spec =
     tie.close
     (tie.spec
     (λ c κs. search needs)
-    (λ c κs. (omega arith, omega (arith, few (c .before))))
+    (λ c κs. search needs)
     fits
     slice-aggregate-write
     (λ c κs. search needs)

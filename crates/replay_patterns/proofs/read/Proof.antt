@@ -1,20 +1,14 @@
 -- `replay_patterns::read` meets its contract: the cells lent are the bytes that were stored.
 use borrow.Author.Needs.{needs}
 use mathlib.Core.Path.{_≡_, sym, ap, _∙_}
-use mathlib.Core.List.{List}
-use Prim.Native.Nat.{ℕ, suc, _≤_}
+use Prim.Native.Nat.{_≤_}
 use native.Mathlib.Omega.{arith}
-use lib.ListN.{length, take, drop, length-replicate}
-use lib.Seq.{sets, length-sets, length-take-le, take-at}
-use Rattle.laws.proofs.Stores.{length-cells, sets-front}
-use Rattle.hex.specs.Hex.{byteAt, bytesFrom}
+use lib.ListN.{length, length-replicate}
+use lib.Seq.{length-sets, length-take-le}
+use Rattle.hex.proofs.Front.{front-bytes}
 use Rattle.evacuation.specs.Reader.{wholeCycles}
 use Rattle.replay_patterns.proofs.read.Statement.{statement}
 use Rattle.replay_patterns.proofs.read.Tie as tie
-
--- what was stored at the front is what is taken there
-taken : (before xs : List ℕ) (n : ℕ) → length xs ≡ n → n ≤ length before → take n (sets before 0 xs) ≡ xs
-taken before xs n e h = rw (sets-front before xs n e h) (take-at xs (drop n before) n e)
 
 full : (c : tie.After-bytes-from) → length (c .bytes-from .last .1 .1 .1 .0) ≡ 4096
 full c = ap length (c .bytes-from .ensures) ∙ simp (length-sets, length-replicate)
@@ -32,8 +26,7 @@ returns c =
     let l = a .args .l .now in
     c .whole-cycles .ensures
     ∙ ap (wholeCycles (a .args .r .«sample_rate_hz»))
-    (rw (d .bytes-from .ensures)
-    (taken _ (bytesFrom l 5 (a .args .n)) (a .args .n) (length-cells suc (λ (k : ℕ). byteAt l k) (a .args .n) 5) (rw length-replicate (omega (arith, a .pre .1)))))
+    (rw (d .bytes-from .ensures) (front-bytes l _ 5 (a .args .n) (omega (arith, a .pre .1)) (rw length-replicate (omega (arith, a .pre .1)))))
 
 pub read-spec : {M : Type 1} → statement M
-read-spec = tie.close (tie.spec (λ c κs. (omega arith, omega (arith, c .before .before .pre .1))) fits slice-aggregate-whole-cycles (λ c κs. search needs) returns)
+read-spec = tie.close (tie.spec (λ c κs. search needs) fits slice-aggregate-whole-cycles (λ c κs. search needs) returns)

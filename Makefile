@@ -19,7 +19,7 @@ test:
 
 differential:
 	tools/prove replay
-	tools/differential long target/bin/replay frames
+	tools/differential long target/bin/replay present
 
 drift:
 	tools/prove replay
@@ -49,4 +49,4 @@ oracle-tests:
 
 # The list of the oracle's answers that `rt ci` replays with no Rust at hand.
 record:
-	tools/record crates/replay frames
+	tools/record crates/replay present

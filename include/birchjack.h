@@ -5,7 +5,10 @@
  * and a number of elements. The pointer is never NULL, not even where the number is 0, and no buffer that is written overlaps another.
  *
  * A call that may be refused answers 0 or a number of enum birchjack_refusal, and gives its value through the pointer `out`; where it
- * is refused, nothing is written. */
+ * is refused, nothing is written.
+ *
+ * The rules are the present ones: document 01's as document 02 changes them. A gain of 255 hands the sample through, in birchjack_gain and
+ * in a box's envelopes, voices, pans and master. Only a script may open document 01's box, by its record 10. */
 #ifndef BIRCHJACK_H
 #define BIRCHJACK_H
 
@@ -38,7 +41,7 @@ enum birchjack_refusal {
 
 /* ---- numbers alone */
 
-/* floor(sample * gain_q8 / 256) */
+/* floor(sample * gain_q8 / 256); the sample itself for a gain of 255 */
 int8_t birchjack_gain(int8_t sample, uint8_t gain_q8);
 
 /* a + truncated((b - a) * fraction / 256) */
@@ -119,7 +122,7 @@ uint8_t birchjack_payload_of(const uint8_t *bytes, size_t bytes_len, uint32_t sa
 uint8_t birchjack_write_bank(const uint8_t (*header)[10], const uint8_t *entries, size_t entries_len, const uint8_t *payloads,
                              size_t payloads_len, uint8_t *out, size_t out_len, size_t *len);
 
-/* ---- an engine that lives for the call: n voices, a policy (free_only: FreeChannelOnly, else LowestPriorityOldest), a master gain, this
+/* ---- a box that lives for the call: n voices, a policy (free_only: FreeChannelOnly, else LowestPriorityOldest), a master gain, this
  * bank, and the requests played one after another. A request has ten bytes, big-endian: id (2), attack (2), decay (2), sustain (1),
  * release (2), priority (1). Then voice 0 sounds PolyBLEP of a frequency for so many milliseconds: 0 sine, 1 sawtooth, 2 square,
  * 3 triangle; of any other number none. 1 for more than 16 voices, 2 for a rate above 65,537, 3 for a period below 2, 4 where the
@@ -149,9 +152,10 @@ uint8_t birchjack_duty(size_t n, bool free_only, uint8_t master_gain_q8, uint16_
                        size_t requests_len, uint8_t polyblep_waveform, uint32_t polyblep_hz, uint16_t polyblep_ms, uint16_t *out,
                        size_t out_len);
 
-/* ---- a whole replay script (docs/REPLAY.md), which drives one engine through any of its calls. As much as there is room for is
- * written, and the length of all of it is the answer, as with snprintf: call once with out_len 0 to ask for the length. *good says
- * whether no line is bad; a bad line ends the run. These two need some 400 KB of stack. */
+/* ---- a whole replay script (docs/REPLAY.md), which drives one box at a time through any of its calls: record 70 opens one of the present
+ * rules, record 10 document 01's. As much as there is room for is written, and the length of all of it is the answer, as with snprintf: call
+ * once with out_len 0 to ask for the length. *good says whether no line is bad; a bad line ends the run. These two need some 400 KB of
+ * stack. */
 
 /* The answers of the lines, in bytes. */
 size_t birchjack_answers(const uint8_t *script, size_t script_len, uint8_t *out, size_t out_len, bool *good);

@@ -8,7 +8,7 @@ ROOT = Path(__file__).resolve().parent.parent
 ENVELOPE = (2, 2, 1, 2)
 SOURCE = (1, 4, 2, 1, 4)
 WIDTHS = {
-    "10": (1, 4, 2, 1, 1, 1), "11": (4, 2), "13": (2, *ENVELOPE, 1), "14": (2, 2, *ENVELOPE), "21": (2,), "30": (),
+    "70": (1, 4, 2, 1, 1, 1), "11": (4, 2), "13": (2, *ENVELOPE, 1), "14": (2, 2, *ENVELOPE), "21": (2,), "30": (),
     "48": (*ENVELOPE, 4, 2, 2), "60": (*SOURCE, 3, 2), "61": (*SOURCE, *ENVELOPE, 1, 1, 1, 3, 1, 2),
     "80": (4, 4, 2), "81": (4,), "84": (2, 4), "85": (2, 4, 4),
 }
@@ -82,5 +82,5 @@ def bank(tones):
 
 
 def engine(voices, rate, tones):
-    """Records that open an engine under LowestPriorityOldest and set its bank."""
-    return [record("10", voices, rate, 1000, 0, 255, 0), "12" + bank(tones).hex().upper(), record("11", rate, len(tones))]
+    """Records that open a box of the present rules under LowestPriorityOldest and set its bank."""
+    return [record("70", voices, rate, 1000, 0, 255, 0), "12" + bank(tones).hex().upper(), record("11", rate, len(tones))]

@@ -6,7 +6,6 @@ use crate::job::{Given, Job, Script};
 #[derive(Clone, Copy)]
 pub enum Rules {
     Document01,
-    #[cfg(feature = "present")]
     Document02,
 }
 
@@ -237,7 +236,6 @@ fn boxed() -> Vec<Case> {
 }
 
 /// The same jobs done by a box of the present rules, and frames of voices all of whose gains are 255.
-#[cfg(feature = "present")]
 fn present() -> Vec<Case> {
     let mut cases = boxed();
     for n in [2, 16] {
@@ -255,7 +253,6 @@ fn present() -> Vec<Case> {
 }
 
 /// With every entry's gain and every sustain at 255; the master's is.
-#[cfg(feature = "present")]
 fn full(mut script: Script) -> Script {
     let gains = script.bank.iter_mut().skip(10 + 4).step_by(16);
     let sustains = script.requests.iter_mut().skip(6).step_by(10);
@@ -271,7 +268,6 @@ pub fn all() -> Vec<Case> {
     for length in [0, 100] {
         writes(length, &mut cases);
     }
-    #[cfg(feature = "present")]
     cases.extend(present());
     cases
 }

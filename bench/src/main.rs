@@ -19,7 +19,6 @@ mod document_01 {
 }
 
 /// The same files for the box of the present rules.
-#[cfg(feature = "present")]
 #[path = "."]
 mod document_02 {
     use crate::library::document_02 as library;
@@ -47,7 +46,6 @@ fn sides(rules: Rules) -> [Do; 2] {
             run::<document_01::original::Original>,
             run::<document_01::port::Port>,
         ],
-        #[cfg(feature = "present")]
         Rules::Document02 => [
             run::<document_02::original::Original>,
             run::<document_02::port::Port>,

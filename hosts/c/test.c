@@ -1,4 +1,4 @@
-/* Every call of birchjack.h, on document 01's checked examples and on refusals, which leave every cell as it was. */
+/* Every call of birchjack.h, on the papers' checked examples and on refusals, which leave every cell as it was. */
 #include "birchjack.h"
 
 #include <stdio.h>
@@ -30,7 +30,8 @@ static void numbers(void) {
     CHECK(birchjack_sine(0) == 0 && birchjack_sine(64) == 63 && birchjack_sine(192) == -63 && birchjack_sine(255) == 0);
     CHECK(birchjack_phase_increment(1000, 8000) == 536870912);
     CHECK(birchjack_phase_increment(1000, 0) == 0);
-    CHECK(birchjack_gain(127, 255) == 126 && birchjack_gain(-127, 255) == -127);
+    /* 255 hands the sample through */
+    CHECK(birchjack_gain(127, 255) == 127 && birchjack_gain(-127, 255) == -127 && birchjack_gain(127, 254) == 126);
     CHECK(birchjack_lerp(-128, 127, 128) == -1);
     static const uint8_t pans[3][3] = {{0, 255, 0}, {128, 255, 255}, {129, 252, 255}};
     for (int i = 0; i < 3; i++) {
@@ -258,10 +259,10 @@ static void refused_frames(void) {
     }
 }
 
-/* Document 01's list of frames, as a replay script: two voices, a square tone of 1,000 Hz, three duties, then a bad line. */
+/* Document 02's list of frames, as a replay script: two voices, a square tone of 1,000 Hz, three duties, then a bad line. */
 static void scripts(void) {
-    static const char script[] = "100200003E8003E800FF00\n15000003E8000000\n200003\n\n4540\n";
-    static const char answer[] = "00\n000301F70213023E\nFFFF\n";
+    static const char script[] = "700200003E8003E800FF00\n15000003E8000000\n200003\n\n4540\n";
+    static const char answer[] = "00\n000301FF021B0246\nFFFF\n";
     const uint8_t *bytes = (const uint8_t *)script;
     size_t length = sizeof script - 1;
     uint8_t out[64];
@@ -278,7 +279,7 @@ static void scripts(void) {
     CHECK(birchjack_answers(bytes, length - 7, out, sizeof out, &good) == sizeof answer - 1 - 5 && good);
 
     int16_t cells[8];
-    static const uint16_t duty[3] = {0x01F7, 0x0213, 0x023E};
+    static const uint16_t duty[3] = {0x01FF, 0x021B, 0x0246};
     for (int i = 0; i < 8; i++) {
         cells[i] = 0x55;
     }

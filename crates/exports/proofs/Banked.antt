@@ -8,7 +8,7 @@ use Rattle.error.specs.declared.AudioError.{AudioError}
 use Rattle.error.proofs.Told.{value-is, not-refused}
 use Rattle.bank_writer.specs.Refusals.{Wrote}
 use Rattle.bank_writer.specs.declared.BankWritten.the-variants as W
-use Rattle.exports.specs.Told.{Answers}
+use Rattle.exports_parts.specs.Told.{Answers}
 use Rattle.exports.specs.Writing.{bankTold}
 
 pub banked-refused : {t : Told (List ℕ)} {before after : List ℕ} {e : AudioError} (len : ℕ) → Wrote t before after (W.Refused e) → Answers (bankTold before t) (before, len) (numberOf e) (after, len)

@@ -2,8 +2,6 @@
 --     Banked   what a call that wrote a bank tells
 --     Cells    a run's values, one to a cell
 --     Laws     what callers cite: a payload that is there is within the bytes
---     Ready    what a call answers, by what readying its engine gave
 mod Banked
 mod Cells
 pub mod Laws
-mod Ready

@@ -1,13 +1,11 @@
 -- What a reader believes of the calls for other languages.
---     Told      a value or a refusal, as a number and cells
 --     Leaves    numbers alone
 --     Levels    an envelope alone
 --     Lengths   lengths with what is left over
 --     Signals   the evacuation pattern and its reader
 --     Banks     a bank that is set for one call
 --     Writing   a bank that is written
---     Plays     an engine that lives for one call
-pub mod Told
+--     Plays     a box of the present rules that lives for one call; the rest of it is in `exports_parts`
 pub mod Leaves
 pub mod Levels
 pub mod Lengths

@@ -3,7 +3,7 @@ ghost use mathlib.Core.Path.{_≡_};
 ghost use Rattle.error.specs.Told.{numberIn};
 ghost use Rattle.bank.specs.Banks.{toldPayload};
 ghost use Rattle.bank.specs.Entries.{toldEntry};
-ghost use Rattle.exports.specs.Told.{Answers};
+ghost use Rattle.exports_parts.specs.Told.{Answers};
 ghost use Rattle.exports.specs.Banks.{searched, entryCells, entryTold, lookedUp, partTold, foundPart};
 use bank::BankRead;
 use bank::BankSet;

@@ -1,18 +1,19 @@
 // Numbers alone: gain, interpolation, pan, phase, sine, and those that may be refused.
 ghost use mathlib.Core.Path.{_≡_};
-ghost use Rattle.fixed.specs.Fixed.{increment, sine, toward, gained, panGains};
+ghost use mathlib.Core.Bool.{true};
+ghost use Rattle.fixed.specs.Fixed.{increment, sine, toward, gainedBy, panGains};
 ghost use Rattle.config.specs.Config.{fadeStep};
 ghost use Rattle.output.specs.Levels.{limitedBus};
-ghost use Rattle.exports.specs.Told.{Answers};
+ghost use Rattle.exports_parts.specs.Told.{Answers};
 ghost use Rattle.exports.specs.Leaves.{dutyTold, sidesOf};
 use output::Limited;
 use output::Period;
 use output::PeriodRead;
 
-// A sample by a gain in 256ths.
+// A sample by a gain in 256ths, 255 the whole of it.
 #[no_mangle]
 pub extern "C" fn birchjack_gain(sample: i8, gain_q8: u8) -> i8
-    ensures { λ r. ⌜ r ≡ gained sample «gain_q8» ⌝ }
+    ensures { λ r. ⌜ r ≡ gainedBy true sample «gain_q8» ⌝ }
 {
     fixed::apply_gain_q8(sample, gain_q8)
 }

@@ -4,7 +4,7 @@ ghost use lib.ListN.{length};
 ghost use Rattle.laws.specs.Made.{Made};
 ghost use Rattle.laws.specs.Runs.{after};
 ghost use Rattle.envelope.specs.Alone.{ValidEnvelope, tickedEnvelope};
-ghost use Rattle.exports.specs.Told.{Answers};
+ghost use Rattle.exports_parts.specs.Told.{Answers};
 ghost use Rattle.exports.specs.Levels.{specOf, levelsFrom, levelsTold};
 use envelope::AdsrSpec;
 use envelope::Envelope;

@@ -1,7 +1,7 @@
 // Lengths in samples with what is left over, so that many in a row do not drift: 2 for a rate above 65,537.
 ghost use mathlib.Core.Path.{_≡_};
 ghost use Rattle.lengths.specs.Lengths.{atRate, carrying, lengthOf, toldLength, totalOf, toldTotal};
-ghost use Rattle.exports.specs.Told.{Answers};
+ghost use Rattle.exports_parts.specs.Told.{Answers};
 ghost use Rattle.exports.specs.Lengths.{lengthTold, totalTold};
 use lengths::LengthRead;
 use lengths::TotalRead;

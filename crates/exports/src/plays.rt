@@ -1,81 +1,50 @@
-// An engine that lives for one call: it is opened, gets a bank, plays requests, and is asked for frames.
-ghost use mathlib.Core.Path.{_≡_};
+// A box of the present rules (document 02) that lives for one call: it is opened, gets a bank, plays requests, and is asked for frames.
 ghost use Rattle.laws.specs.Made.{Made};
-ghost use Rattle.engine.specs.Engines.{ValidEngine, ValidEngineChanged};
-ghost use Rattle.frame.specs.Runs.{monoStep, dutyStep, duties, stereoStep};
-ghost use Rattle.buffers.specs.Buffers.{toI16, once, sides};
+ghost use Rattle.buffers.specs.Buffers.{toI16};
+ghost use Rattle.buffers.specs.declared.Level.the-variants.{Duty};
+ghost use Rattle.buffers.specs.declared.Shape.the-variants.{Once, Sides};
+ghost use Rattle.sounder.specs.Sounders.{ValidSounder, ValidSounderChanged};
 ghost use Rattle.output.specs.declared.DutyMode.the-variants as M;
-ghost use Rattle.exports.specs.Told.{Answers};
-ghost use Rattle.exports.specs.Plays.{policyOf, modeOf, settings, readied, toldReady, withPolyBlep, sounded, pannedFrom, cellsTold, pairsTold, playTold};
+ghost use Rattle.exports_parts.specs.Told.{Answers};
+ghost use Rattle.exports_parts.specs.Plays.{policyOf, modeOf, settings, Readies, readied, withPolyBlep, sounded, pannedFrom, cellsTold, levelsTold, playTold};
+ghost use Rattle.exports.specs.Plays.{told, calls};
 use config::AudioConfig;
 use config::DEFAULT_PWM_PERIOD;
-use engine::AudioEngine;
-use engine::EngineChanged;
 use mixer::Outcome;
-use mixer::VoiceStealingPolicy;
 use output::DutyMode;
+use sounder::Sounder;
+use sounder::SounderChanged;
 
-fn policy_of(free_only: bool) -> VoiceStealingPolicy
-    ensures { λ r. ⌜ r ≡ policyOf «free_only» ⌝ }
-{
-    if free_only {
-        VoiceStealingPolicy::FreeChannelOnly
-    } else {
-        VoiceStealingPolicy::LowestPriorityOldest
-    }
-}
-
-fn mode_of(shaped: bool, second_order: bool) -> DutyMode
-    ensures { λ r. ⌜ r ≡ modeOf shaped «second_order» ⌝ }
-{
-    if shaped {
-        if second_order {
-            DutyMode::SigmaDelta2ndOrder
-        } else {
-            DutyMode::SigmaDelta
-        }
-    } else {
-        DutyMode::Linear
-    }
-}
-
-fn settings(sample_rate_hz: u32, period: u16, mode: DutyMode, gain: u8) -> AudioConfig
-    ensures { λ r. ⌜ r ≡ settings «sample_rate_hz» period mode gain ⌝ }
-{
-    let config = AudioConfig::new(sample_rate_hz, period, mode);
-    config.master_gain_q8(gain)
-}
-
-// An engine with its bank, or what turned it down.
+// A box with its bank, or what turned it down.
 fn ready(
     n: usize,
     free_only: bool,
     config: AudioConfig,
     bytes: &[u8],
     effect_count: u16,
-) -> EngineChanged
-    ensures { λ r. ⌜ Made ValidEngineChanged (readied n (policyOf «free_only») config (now (bytes .entry)) «effect_count») r ⌝ }
+) -> SounderChanged
+    ensures { λ r. ⌜ Readies told ValidSounderChanged (readied calls n (policyOf «free_only») config (now (bytes .entry)) «effect_count») r ⌝ }
 {
-    let policy = policy_of(free_only);
-    let opened = AudioEngine::open(n, config, policy);
+    let policy = exports_parts::policy_of(free_only);
+    let opened = Sounder::open(n, config, policy);
     let outcome = opened.outcome;
     match outcome {
         Outcome::Refused(_) => opened,
         Outcome::Done => {
-            let silent = opened.engine;
+            let silent = opened.sounder;
             silent.set_bank(bytes, config.sample_rate_hz, effect_count)
         }
     }
 }
 
-fn with_polyblep(e: AudioEngine, waveform: u8, freq_hz: u32, duration_ms: u16) -> AudioEngine
-    requires { ⌜ ValidEngine e ⌝ }
-    ensures { λ r. ⌜ Made ValidEngine (withPolyBlep e waveform «freq_hz» «duration_ms») r ⌝ }
+fn with_polyblep(s: Sounder, waveform: u8, freq_hz: u32, duration_ms: u16) -> Sounder
+    requires { ⌜ ValidSounder s ⌝ }
+    ensures { λ r. ⌜ Made ValidSounder (withPolyBlep calls s waveform «freq_hz» «duration_ms») r ⌝ }
 {
     if waveform > 3 {
-        return e;
+        return s;
     }
-    e.play_polyblep(
+    s.play_polyblep(
         freq_hz,
         duration_ms,
         replay_fields::polyblep_waveform(waveform),
@@ -84,31 +53,31 @@ fn with_polyblep(e: AudioEngine, waveform: u8, freq_hz: u32, duration_ms: u16) -
 
 // The requests one after another, then PolyBLEP on voice 0.
 fn sounding(
-    e: AudioEngine,
+    s: Sounder,
     bytes: &[u8],
     requests: &[u8],
     waveform: u8,
     freq_hz: u32,
     duration_ms: u16,
-) -> AudioEngine
-    requires { ⌜ ValidEngine e ⌝ }
-    ensures { λ r. ⌜ Made ValidEngine (sounded (now (bytes .entry)) (now (requests .entry)) waveform «freq_hz» «duration_ms» e) r ⌝ }
+) -> Sounder
+    requires { ⌜ ValidSounder s ⌝ }
+    ensures { λ r. ⌜ Made ValidSounder (sounded calls (now (bytes .entry)) (now (requests .entry)) waveform «freq_hz» «duration_ms» s) r ⌝ }
 {
-    let played = e.play_all(bytes, requests);
+    let played = s.play_all(bytes, requests);
     with_polyblep(played, waveform, freq_hz, duration_ms)
 }
 
-fn panned(first: AudioEngine, pans: &[u8]) -> AudioEngine
-    requires { ⌜ ValidEngine first ⌝ }
-    ensures { λ r. ⌜ Made ValidEngine (pannedFrom 0 (now (pans .entry)) first) r ⌝ }
+fn panned(first: Sounder, pans: &[u8]) -> Sounder
+    requires { ⌜ ValidSounder first ⌝ }
+    ensures { λ r. ⌜ Made ValidSounder (pannedFrom calls 0 (now (pans .entry)) first) r ⌝ }
 {
-    let mut e = first;
+    let mut s = first;
     let mut i = 0;
     while i < pans.len() {
-        e = e.set_voice_pan(i, pans[i]);
+        s = s.set_voice_pan(i, pans[i]);
         i += 1;
     }
-    e
+    s
 }
 
 // Plays the requests: each one's outcome, and how many voices are audible then.
@@ -123,15 +92,15 @@ pub extern "C" fn birchjack_play(
     outcomes: &mut [u16],
     audible: &mut usize,
 ) -> u8
-    ensures { λ r. ⌜ Answers (playTold (toldReady (readied n (policyOf «free_only») (settings «sample_rate_hz» 1000 M.Linear 255) (now (bytes .entry)) «effect_count»)) (now (bytes .entry)) (now (requests .entry)) (now (outcomes .entry))) (now (outcomes .entry), now (audible .entry)) r (now (outcomes .exit), now (audible .exit)) ⌝ }
+    ensures { λ r. ⌜ Answers (playTold calls (readied calls n (policyOf «free_only») (settings «sample_rate_hz» 1000 M.Linear 255) (now (bytes .entry)) «effect_count») (now (bytes .entry)) (now (requests .entry)) (now (outcomes .entry))) (now (outcomes .entry), now (audible .entry)) r (now (outcomes .exit), now (audible .exit)) ⌝ }
 {
-    let config = settings(sample_rate_hz, DEFAULT_PWM_PERIOD, DutyMode::Linear, 255);
+    let config = exports_parts::settings(sample_rate_hz, DEFAULT_PWM_PERIOD, DutyMode::Linear, 255);
     let c = ready(n, free_only, config, bytes, effect_count);
     let outcome = c.outcome;
     match outcome {
         Outcome::Refused(e) => e.number(),
         Outcome::Done => {
-            let silent = c.engine;
+            let silent = c.sounder;
             let played = silent.play_each(bytes, requests, outcomes);
             *audible = played.active_voice_count();
             0
@@ -154,9 +123,9 @@ pub extern "C" fn birchjack_pcm_i16(
     polyblep_ms: u16,
     out: &mut [i16],
 ) -> u8
-    ensures { λ r. ⌜ Answers (cellsTold monoStep (once toI16) (toldReady (readied n (policyOf «free_only») (settings «sample_rate_hz» 1000 M.Linear «master_gain_q8») (now (bytes .entry)) «effect_count»)) (sounded (now (bytes .entry)) (now (requests .entry)) «polyblep_waveform» «polyblep_hz» «polyblep_ms») (now (out .entry))) (now (out .entry)) r (now (out .exit)) ⌝ }
+    ensures { λ r. ⌜ Answers (cellsTold calls toI16 Once (readied calls n (policyOf «free_only») (settings «sample_rate_hz» 1000 M.Linear «master_gain_q8») (now (bytes .entry)) «effect_count») (sounded calls (now (bytes .entry)) (now (requests .entry)) «polyblep_waveform» «polyblep_hz» «polyblep_ms») (now (out .entry))) (now (out .entry)) r (now (out .exit)) ⌝ }
 {
-    let config = settings(
+    let config = exports_parts::settings(
         sample_rate_hz,
         DEFAULT_PWM_PERIOD,
         DutyMode::Linear,
@@ -167,8 +136,8 @@ pub extern "C" fn birchjack_pcm_i16(
     match outcome {
         Outcome::Refused(e) => e.number(),
         Outcome::Done => {
-            let silent = c.engine;
-            let e = sounding(
+            let silent = c.sounder;
+            let s = sounding(
                 silent,
                 bytes,
                 requests,
@@ -176,7 +145,7 @@ pub extern "C" fn birchjack_pcm_i16(
                 polyblep_hz,
                 polyblep_ms,
             );
-            e.fill_pcm_i16_buffer(out);
+            s.fill_pcm_i16_buffer(out);
             0
         }
     }
@@ -198,9 +167,9 @@ pub extern "C" fn birchjack_stereo_i16(
     pans: &[u8],
     out: &mut [i16],
 ) -> u8
-    ensures { λ r. ⌜ Answers (pairsTold stereoStep (sides toI16) (toldReady (readied n (policyOf «free_only») (settings «sample_rate_hz» 1000 M.Linear «master_gain_q8») (now (bytes .entry)) «effect_count»)) (λ e. pannedFrom 0 (now (pans .entry)) (sounded (now (bytes .entry)) (now (requests .entry)) «polyblep_waveform» «polyblep_hz» «polyblep_ms» e)) (now (out .entry))) (now (out .entry)) r (now (out .exit)) ⌝ }
+    ensures { λ r. ⌜ Answers (cellsTold calls toI16 Sides (readied calls n (policyOf «free_only») (settings «sample_rate_hz» 1000 M.Linear «master_gain_q8») (now (bytes .entry)) «effect_count») (λ s. pannedFrom calls 0 (now (pans .entry)) (sounded calls (now (bytes .entry)) (now (requests .entry)) «polyblep_waveform» «polyblep_hz» «polyblep_ms» s)) (now (out .entry))) (now (out .entry)) r (now (out .exit)) ⌝ }
 {
-    let config = settings(
+    let config = exports_parts::settings(
         sample_rate_hz,
         DEFAULT_PWM_PERIOD,
         DutyMode::Linear,
@@ -211,8 +180,8 @@ pub extern "C" fn birchjack_stereo_i16(
     match outcome {
         Outcome::Refused(e) => e.number(),
         Outcome::Done => {
-            let silent = c.engine;
-            let e = sounding(
+            let silent = c.sounder;
+            let s = sounding(
                 silent,
                 bytes,
                 requests,
@@ -220,7 +189,7 @@ pub extern "C" fn birchjack_stereo_i16(
                 polyblep_hz,
                 polyblep_ms,
             );
-            let p = panned(e, pans);
+            let p = panned(s, pans);
             p.fill_stereo_panned_i16_buffer(out);
             0
         }
@@ -245,17 +214,17 @@ pub extern "C" fn birchjack_duty(
     polyblep_ms: u16,
     out: &mut [u16],
 ) -> u8
-    ensures { λ r. ⌜ Answers (cellsTold dutyStep duties (toldReady (readied n (policyOf «free_only») (settings «sample_rate_hz» period (modeOf shaped «second_order») «master_gain_q8») (now (bytes .entry)) «effect_count»)) (sounded (now (bytes .entry)) (now (requests .entry)) «polyblep_waveform» «polyblep_hz» «polyblep_ms») (now (out .entry))) (now (out .entry)) r (now (out .exit)) ⌝ }
+    ensures { λ r. ⌜ Answers (levelsTold calls Duty (readied calls n (policyOf «free_only») (settings «sample_rate_hz» period (modeOf shaped «second_order») «master_gain_q8») (now (bytes .entry)) «effect_count») (sounded calls (now (bytes .entry)) (now (requests .entry)) «polyblep_waveform» «polyblep_hz» «polyblep_ms») (now (out .entry))) (now (out .entry)) r (now (out .exit)) ⌝ }
 {
-    let mode = mode_of(shaped, second_order);
-    let config = settings(sample_rate_hz, period, mode, master_gain_q8);
+    let mode = exports_parts::mode_of(shaped, second_order);
+    let config = exports_parts::settings(sample_rate_hz, period, mode, master_gain_q8);
     let c = ready(n, free_only, config, bytes, effect_count);
     let outcome = c.outcome;
     match outcome {
         Outcome::Refused(e) => e.number(),
         Outcome::Done => {
-            let silent = c.engine;
-            let e = sounding(
+            let silent = c.sounder;
+            let s = sounding(
                 silent,
                 bytes,
                 requests,
@@ -263,7 +232,7 @@ pub extern "C" fn birchjack_duty(
                 polyblep_hz,
                 polyblep_ms,
             );
-            e.fill_duty_buffer(out);
+            s.fill_duty_buffer(out);
             0
         }
     }

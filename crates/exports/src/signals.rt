@@ -2,7 +2,7 @@
 ghost use mathlib.Core.Path.{_≡_};
 ghost use lib.ListN.{length};
 ghost use Rattle.evacuation.specs.Pattern.{byteOf};
-ghost use Rattle.exports.specs.Told.{Answers};
+ghost use Rattle.exports_parts.specs.Told.{Answers};
 ghost use Rattle.exports.specs.Signals.{cycleTold, soundsTold, runTold, readTold};
 use evacuation::Pattern;
 use evacuation::PatternOpened;

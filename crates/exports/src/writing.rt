@@ -1,7 +1,7 @@
 // Writing a bank: 13 for entries that make none, 14 for a buffer that is too short.
 ghost use mathlib.Core.Path.{_≡_};
 ghost use lib.ListN.{length};
-ghost use Rattle.exports.specs.Told.{Answers};
+ghost use Rattle.exports_parts.specs.Told.{Answers};
 ghost use Rattle.exports.specs.Writing.{bankFrom, bankTold};
 use bank_writer::BankWritten;
 

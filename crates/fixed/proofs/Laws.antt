@@ -111,6 +111,28 @@ pub gained-whole : (s : ℤ) → gained s 256 ≡ s
 gained-whole (pos n) = ap pos (mul-div-cancel n (omega arith))
 gained-whole (negsuc n) = let e : suc n * 256 ≡ suc (n * 256 + 255) = omega arith in rw e (ap negsuc (omega arith))
 
+-- document 02's T-03: "Gain 255 shall hand the sample through", and "0 to 254 are unchanged"
+pub through : (s : ℤ) → gainedBy true s 255 ≡ s
+through s = gained-whole s
+
+pub unchanged : (whole : Bool) (s : ℤ) (g : ℕ) → g ≤ 254 → gainedBy whole s g ≡ gained s g
+unchanged whole s g h = ap (gained s) (factor-below whole g h)
+
+-- What any gain makes of a sample is never larger in size and never of the other sign; the floor makes a negative one 0 by gain 0 alone.
+pub brought-down : (n g : ℕ) → g ≤ 256 → (k : ℕ) × (gained (pos n) g ≡ pos k) × (k ≤ n)
+brought-down n g h = (n * g / 256, refl, part≤ n g 256 h (omega arith))
+
+pub brought-up : (n g : ℕ) → 0 < g → g ≤ 256 → (k : ℕ) × (gained (negsuc n) g ≡ negsuc k) × (k ≤ n)
+brought-up n (suc g) p h =
+    let most : n * suc g ≤ n * 256 = mul-le-mul-left n h in
+    let under : (g + n * suc g) / 256 < suc n = div-lt-iff-lt-mul {k = 256} {x = g + n * suc g} {y = suc n} (omega arith) .1 (omega arith) in
+    let same : suc n * suc g ≡ suc (g + n * suc g) = omega arith in
+    ((g + n * suc g) / 256, rw same refl, omega arith)
+
+pub silenced : (s : ℤ) → gained s 0 ≡ pos 0
+silenced (pos n) = ap pos (omega arith)
+silenced (negsuc n) = let none : suc n * 0 ≡ 0 = omega arith in rw none
+
 -- past an excess of room(room − 1) the knee's quotient is room − 1
 pub knee-top : (r e : ℕ) → suc r * r ≤ e → suc r * e / (e + suc r) ≡ r
 knee-top r e h =

@@ -1,5 +1,6 @@
 // Phases, samples and gains; decibels in floats.rt.
 ghost use mathlib.Core.Path.{_≡_};
+ghost use mathlib.Core.Bool.{true};
 ghost use Prim.Native.Nat.{_+_, _-_, _*_, _≤_, _<_, min};
 ghost use lib.IntN.{pos};
 ghost use mir.Syntax.{w8};
@@ -123,8 +124,15 @@ pub fn apply_gain_by(sample: i8, gain_q8: u8, whole: bool) -> i8
     (((sample as i16) * (gain_q8 as i16)) >> 8) as i8
 }
 
-// Document 01's rule.
+// The present rule: 255 hands the sample through.
 pub fn apply_gain_q8(sample: i8, gain_q8: u8) -> i8
+    ensures { λ r. ⌜ r ≡ gainedBy true sample «gain_q8» ⌝ }
+{
+    apply_gain_by(sample, gain_q8, true)
+}
+
+// Document 01's rule, which an FM source's depth keeps.
+pub fn apply_document_01_gain(sample: i8, gain_q8: u8) -> i8
     ensures { λ r. ⌜ r ≡ gained sample «gain_q8» ⌝ }
 {
     apply_gain_by(sample, gain_q8, false)

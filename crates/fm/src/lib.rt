@@ -56,7 +56,7 @@ fn mod_offset(mod_phase: Phase, mod_depth_q8: u8) -> u8
 {
     let index = fixed::phase_index(mod_phase);
     let m = table_sample(index, fixed::phase_fraction(mod_phase));
-    fixed::as_u8(fixed::apply_gain_q8(m, mod_depth_q8))
+    fixed::as_u8(fixed::apply_document_01_gain(m, mod_depth_q8))
 }
 
 // The sample of two phases and a depth.

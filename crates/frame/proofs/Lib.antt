@@ -7,6 +7,7 @@
 --     Alike    marks that differ at most beside inaudible voices
 --     Sized    what settling asks of a state
 --     Settling what stands beside an inaudible voice never shows: mono-still, duty-still, stereo-still
+--     Whole    with every gain at 255 a source's sample comes to the limiter as it is: handed-through
 pub mod Places
 pub mod Laws
 pub mod Lasting
@@ -16,3 +17,4 @@ pub mod Voices
 pub mod Alike
 pub mod Sized
 pub mod Settling
+pub mod Whole

@@ -4,10 +4,12 @@
 --     Frames    one mono frame, one stereo frame
 --     Runs      frames one after another
 --     Presents  frames of a box of the present rules
+--     Whole     a frame with every gain at 255
 --     Lasting   how long a fade takes
 pub mod Places
 pub mod Fades
 pub mod Frames
 pub mod Runs
 pub mod Presents
+pub mod Whole
 pub mod Lasting

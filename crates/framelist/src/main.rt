@@ -1,15 +1,15 @@
 // Reads a list of lines on standard input and writes the answers to standard output. What a line does and what is answered to it
 // is the library's.
-ghost use Rattle.engine.specs.Engines.{ValidEngine};
-use engine::AudioEngine;
+ghost use Rattle.sounder.specs.Sounders.{ValidSounder};
 use libc::STDIN_FILENO;
 use libc::STDOUT_FILENO;
+use sounder::Sounder;
 
-// How much of a line is kept, whether the run goes on, and the engine.
+// How much of a line is kept, whether the run goes on, and the box.
 struct Run {
     line: usize,
     more: bool,
-    engine: AudioEngine,
+    sounder: Sounder,
 }
 
 // Writes the first n bytes and says whether that went well.
@@ -22,27 +22,27 @@ fn write_front(s: &[u8], n: usize) -> bool {
 }
 
 fn answered(r: Run, line: &[u8], n: usize, out: &mut [u8; 262144]) -> Run
-    requires { ⌜ ValidEngine (r .engine) ⌝ }
-    ensures { λ s. ⌜ ValidEngine (s .engine) ⌝ }
+    requires { ⌜ ValidSounder (r .sounder) ⌝ }
+    ensures { λ s. ⌜ ValidSounder (s .sounder) ⌝ }
 {
     if n > line.len() {
         return Run { more: false, ..r };
     }
-    let before = r.engine;
+    let before = r.sounder;
     let a = framelist_answers::answer(&line[..n], before, out);
     let is_written = write_front(&*out, a.len);
-    let engine = a.engine;
+    let sounder = a.sounder;
     Run {
         line: 0,
         more: a.more && is_written,
-        engine,
+        sounder,
     }
 }
 
 // The lines that end in the chunk, and what it begins of the next. A line that fills its 17 bytes is bad wherever it ends.
 fn feed(r: Run, chunk: &[u8], line: &mut [u8; 17], out: &mut [u8; 262144]) -> Run
-    requires { ⌜ ValidEngine (r .engine) ⌝ }
-    ensures { λ s. ⌜ ValidEngine (s .engine) ⌝ }
+    requires { ⌜ ValidSounder (r .sounder) ⌝ }
+    ensures { λ s. ⌜ ValidSounder (s .sounder) ⌝ }
 {
     let mut t = r;
     let mut i = 0;
@@ -60,8 +60,8 @@ fn feed(r: Run, chunk: &[u8], line: &mut [u8; 17], out: &mut [u8; 262144]) -> Ru
 
 // Reads once and answers the lines that ended. At the end of the input a last line may lack its newline.
 fn read_some(r: Run, line: &mut [u8; 17], out: &mut [u8; 262144]) -> Run
-    requires { ⌜ ValidEngine (r .engine) ⌝ }
-    ensures { λ s. ⌜ ValidEngine (s .engine) ⌝ }
+    requires { ⌜ ValidSounder (r .sounder) ⌝ }
+    ensures { λ s. ⌜ ValidSounder (s .sounder) ⌝ }
 {
     let mut chunk = io::large_buffer();
     let got = libc::read(STDIN_FILENO, &mut chunk);
@@ -84,7 +84,7 @@ fn main() {
     let mut r = Run {
         line: 0,
         more: true,
-        engine: framelist_answers::start(),
+        sounder: framelist_answers::start(),
     };
     let mut turns = u64::MAX;
     while turns > 0 && r.more {

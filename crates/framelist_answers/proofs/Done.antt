@@ -8,4 +8,4 @@ use Rattle.framelist_answers.specs.Lines.{Answer, Told, Answers}
 use Rattle.framelist_answers.specs.declared.Answered.{Answered}
 
 pub done : {a : Answer} {before after : List ℕ} {r : Answered} → length before ≡ 262144 → Told a before after r → Answers a before after r
-done h t = let f = front h (t .laid) in record { text = f .stands; len = f .count; more = t .more; engine = t .engine }
+done h t = let f = front h (t .laid) in record { text = f .stands; len = f .count; more = t .more; sounder = t .sounder }

@@ -1,10 +1,9 @@
-// A list of lines, each a tone or a number of frames: one engine, and what is answered to each line.
+// A list of lines, each a tone or a number of frames: one box of the present rules, and what is answered to each line.
 ghost use mathlib.Core.Path.{_≡_};
 ghost use Rattle.laws.specs.Made.{Made};
-ghost use Rattle.engine.specs.Engines.{ValidEngine};
+ghost use Rattle.sounder.specs.Sounders.{ValidSounder};
 ghost use Rattle.framelist_answers.specs.Lines.{started, badAnswer, isTone, toneAnswer, isFrames, framesAnswer, lineAnswer, Told, Answers};
 use config::AudioConfig;
-use engine::AudioEngine;
 use hex::all_digits;
 use hex::byte_at;
 use hex::end_line;
@@ -15,17 +14,18 @@ use hex::wide_at;
 use mixer::VoiceStealingPolicy;
 use output::DutyMode;
 use replay_fields::tone_waveform;
+use sounder::Sounder;
 
-// How many bytes the answer has, whether the run goes on, and the engine after the line.
+// How many bytes the answer has, whether the run goes on, and the box after the line.
 pub struct Answered {
     pub len: usize,
     pub more: bool,
-    pub engine: AudioEngine,
+    pub sounder: Sounder,
 }
 
-// The engine before the first line.
-pub fn start() -> AudioEngine
-    ensures { λ r. ⌜ Made ValidEngine started r ⌝ }
+// The box before the first line.
+pub fn start() -> Sounder
+    ensures { λ r. ⌜ Made ValidSounder started r ⌝ }
 {
     let config = AudioConfig {
         sample_rate_hz: 16000,
@@ -33,19 +33,19 @@ pub fn start() -> AudioEngine
         duty_mode: DutyMode::Linear,
         master_gain_q8: 255,
     };
-    let c = AudioEngine::open(2, config, VoiceStealingPolicy::LowestPriorityOldest);
-    c.engine
+    let c = Sounder::open(2, config, VoiceStealingPolicy::LowestPriorityOldest);
+    c.sounder
 }
 
-fn bad(e: AudioEngine, out: &mut [u8; 262144]) -> Answered
-    requires { ⌜ ValidEngine e ⌝ }
-    ensures { λ r. ⌜ Told (badAnswer e) (now (out .entry)) (now (out .exit)) r ⌝ }
+fn bad(s: Sounder, out: &mut [u8; 262144]) -> Answered
+    requires { ⌜ ValidSounder s ⌝ }
+    ensures { λ r. ⌜ Told (badAnswer s) (now (out .entry)) (now (out .exit)) r ⌝ }
 {
     let len = put_line(out, 0xffff, 4);
     Answered {
         len,
         more: false,
-        engine: e,
+        sounder: s,
     }
 }
 
@@ -70,39 +70,39 @@ fn is_frames(l: &[u8]) -> bool
     byte_at(l, 0) == 0x02
 }
 
-fn tone_answer(l: &[u8], e: AudioEngine, out: &mut [u8; 262144]) -> Answered
-    requires { ⌜ ValidEngine e ⌝ }
-    ensures { λ r. ⌜ Told (toneAnswer e (now (l .entry))) (now (out .entry)) (now (out .exit)) r ⌝ }
+fn tone_answer(l: &[u8], s: Sounder, out: &mut [u8; 262144]) -> Answered
+    requires { ⌜ ValidSounder s ⌝ }
+    ensures { λ r. ⌜ Told (toneAnswer s (now (l .entry))) (now (out .entry)) (now (out .exit)) r ⌝ }
 {
     let waveform = tone_waveform(byte_at(l, 7));
-    let engine = e.play_tone(long_at(l, 1), wide_at(l, 5), waveform);
+    let sounder = s.play_tone(long_at(l, 1), wide_at(l, 5), waveform);
     Answered {
         len: 0,
         more: true,
-        engine,
+        sounder,
     }
 }
 
 // A frame's duty on a line of its own, so often.
-fn frames_answer(count: u8, e: AudioEngine, out: &mut [u8; 262144]) -> Answered
-    requires { ⌜ ValidEngine e ⌝ }
-    ensures { λ r. ⌜ Told (framesAnswer count e) (now (out .entry)) (now (out .exit)) r ⌝ }
+fn frames_answer(count: u8, s: Sounder, out: &mut [u8; 262144]) -> Answered
+    requires { ⌜ ValidSounder s ⌝ }
+    ensures { λ r. ⌜ Told (framesAnswer count s) (now (out .entry)) (now (out .exit)) r ⌝ }
 {
-    let mut engine = e;
+    let mut sounder = s;
     let mut at = 0;
     let mut left = count;
     while left > 0 {
-        let d = engine.tick();
+        let d = sounder.tick();
         let digits = put(out, at, d.duty as u64, 4);
         at = end_line(out, digits);
-        let after = d.engine;
-        engine = after;
+        let after = d.sounder;
+        sounder = after;
         left -= 1;
     }
     Answered {
         len: at,
         more: true,
-        engine,
+        sounder,
     }
 }
 
@@ -110,19 +110,19 @@ fn frames_answer(count: u8, e: AudioEngine, out: &mut [u8; 262144]) -> Answered
 fn whole(cells: &[u8]) {}
 
 // What a line makes of the run, and its answer at the front of the buffer, which has more room than any answer needs.
-pub fn answer(line: &[u8], e: AudioEngine, out: &mut [u8; 262144]) -> Answered
-    requires { ⌜ ValidEngine e ⌝ }
-    ensures { λ r. ⌜ Answers (lineAnswer e (now (line .entry))) (now (out .entry)) (now (out .exit)) r ⌝ }
+pub fn answer(line: &[u8], s: Sounder, out: &mut [u8; 262144]) -> Answered
+    requires { ⌜ ValidSounder s ⌝ }
+    ensures { λ r. ⌜ Answers (lineAnswer s (now (line .entry))) (now (out .entry)) (now (out .exit)) r ⌝ }
 {
     whole(&*out);
     if !all_digits(line) {
-        return bad(e, out);
+        return bad(s, out);
     }
     if is_tone(line) {
-        return tone_answer(line, e, out);
+        return tone_answer(line, s, out);
     }
     if is_frames(line) {
-        return frames_answer(byte_at(line, 1), e, out);
+        return frames_answer(byte_at(line, 1), s, out);
     }
-    bad(e, out)
+    bad(s, out)
 }

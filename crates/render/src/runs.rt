@@ -2,6 +2,7 @@
 ghost use mathlib.Core.Path.{_≡_};
 ghost use Prim.Native.Nat.{_≤_};
 ghost use lib.ListN.{length};
+ghost use Rattle.replay_box.specs.Boxes.{mixerOf};
 ghost use Rattle.replay_session.specs.Sessions.{ValidSession};
 ghost use Rattle.render.specs.Runs.{ValidRun};
 use crate::file::SoundFile;
@@ -37,10 +38,10 @@ pub fn stopped(r: Run) -> Run
 }
 
 pub fn rate_of(s: Session) -> u32
-    ensures { λ r. ⌜ r ≡ s .engine .state .config .«sample_rate_hz» ⌝ }
+    ensures { λ r. ⌜ r ≡ mixerOf (s .held) .config .«sample_rate_hz» ⌝ }
 {
-    let e = s.engine();
-    let c = e.config();
+    let b = s.held();
+    let c = b.config();
     c.sample_rate_hz
 }
 
@@ -54,7 +55,7 @@ pub fn print(t: Text)
 fn told(l: &[u8], answer: &[u8], before: Session, c: Clock)
     requires { ⌜ ValidSession before ⌝ }
 {
-    print(render_account::tell(l, answer, before.engine(), c));
+    print(render_account::tell(l, answer, before.held(), c));
 }
 
 // Answers a line and tells it in the account. A line that is no record ends the run.

@@ -16,7 +16,8 @@ use Rattle.voice.specs.Voices.{audible}
 use Rattle.mixer.specs.Mixers.{voiceRead}
 use Rattle.mixer.specs.declared.VoiceRead.{VoiceRead}
 use Rattle.mixer.specs.declared.VoiceRead.the-variants as R
-use Rattle.engine.specs.declared.AudioEngine.{AudioEngine}
+use Rattle.replay_box.specs.Boxes.{mixerOf}
+use Rattle.replay_box.specs.declared.OpenBox.{OpenBox}
 use Rattle.render_account.specs.Account as T
 
 why-within : (n : ℕ) → length (T.whyText n) ≤ 55
@@ -27,7 +28,7 @@ end-within : (n : ℕ) → length (T.endText n) ≤ 89
 unfolding T.endText
 end-within n = either-within 89 (eqb n 0) _ _ (omega arith) (simp length-append (omega (arith, decimal-within n, why-within n)))
 
-count-within : (head : List ℕ) (n : ℕ) (name : List ℕ) (hz : ℕ) (answer : List ℕ) (c : Clock) → length head ≤ 14 → length name ≤ 6
+count-within : (head : List ℕ) (n : ℕ) (name : List ℕ) (hz : ℕ) (answer : List ℕ) (c : Clock) → length head ≤ 33 → length name ≤ 6
     → length (T.countText head n name hz answer c) ≤ 256
 unfolding T.countText
 count-within head n name hz answer c h k =
@@ -37,15 +38,15 @@ taken-within : (v : VoiceRead) → length (T.takenText v) ≤ 42
 taken-within R.None = omega arith
 taken-within (R.Voice v) = either-within 42 (audible v) _ _ (simp length-append (omega (arith, decimal-within (v .priority)))) (omega arith)
 
-voice-within : (e : AudioEngine) (voice : ℕ) → length (T.voiceText e voice) ≤ 70
+voice-within : (e : OpenBox) (voice : ℕ) → length (T.voiceText e voice) ≤ 70
 unfolding T.voiceText
-voice-within e voice = simp length-append (omega (arith, decimal-within voice, taken-within (voiceRead (e .state) voice)))
+voice-within e voice = simp length-append (omega (arith, decimal-within voice, taken-within (voiceRead (mixerOf e) voice)))
 
-outcome-within : (answer : List ℕ) (e : AudioEngine) → length (T.outcomeText answer e) ≤ 89
+outcome-within : (answer : List ℕ) (e : OpenBox) → length (T.outcomeText answer e) ≤ 89
 outcome-within answer e =
     either-within 89 (eqb (byteAt answer 0) 0) _ _ (simp length-append (omega (arith, voice-within e (byteAt answer 1)))) (end-within (byteAt answer 0))
 
-play-within : (l answer : List ℕ) (e : AudioEngine) (c : Clock) → length (T.playText l answer e c) ≤ 256
+play-within : (l answer : List ℕ) (e : OpenBox) (c : Clock) → length (T.playText l answer e c) ≤ 256
 unfolding T.playText
 play-within l answer e c =
     simp length-append (omega (arith, time-within c, decimal-within (wideAt l 1), decimal-within (byteAt l 10), outcome-within answer e))
@@ -55,30 +56,30 @@ unfolding T.overText
 over-within ms rate =
     words-within 35 (eqb rate 0) _ _ refl (simp length-append (omega (arith, tenths-within (roundedUp (10_000 * fadeCount (fadeStep ms rate)) rate))))
 
-fade-within : (l answer : List ℕ) (e : AudioEngine) (c : Clock) → length (T.fadeText l answer e c) ≤ 256
+fade-within : (l answer : List ℕ) (e : OpenBox) (c : Clock) → length (T.fadeText l answer e c) ≤ 256
 unfolding T.fadeText
 fade-within l answer e c =
-    let last = either-within 89 (eqb (byteAt answer 0) 0) (T.overText (wideAt l 3) (e .state .config .«sample_rate_hz») ++ words "\n") (T.endText (byteAt answer 0))
-    (simp length-append (omega (arith, over-within (wideAt l 3) (e .state .config .«sample_rate_hz»)))) (end-within (byteAt answer 0)) in
+    let last = either-within 89 (eqb (byteAt answer 0) 0) (T.overText (wideAt l 3) (mixerOf e .config .«sample_rate_hz») ++ words "\n") (T.endText (byteAt answer 0))
+    (simp length-append (omega (arith, over-within (wideAt l 3) (mixerOf e .config .«sample_rate_hz»)))) (end-within (byteAt answer 0)) in
     simp length-append (omega (arith, time-within c, decimal-within (wideAt l 1), decimal-within (wideAt l 3), last))
 
 lasting-within : (ms : ℕ) → length (T.lastingText ms) ≤ 28
 unfolding T.lastingText
 lasting-within ms = words-within 28 (eqb ms 0) _ _ refl (simp length-append (omega (arith, decimal-within ms)))
 
-sounding-within : (l : List ℕ) (e : AudioEngine) → length (T.soundingText l e) ≤ 74
+sounding-within : (l : List ℕ) (e : OpenBox) → length (T.soundingText l e) ≤ 74
 unfolding T.soundingText
 sounding-within l e =
-    let last : length (T.voicesText (e .state .n)) ≤ 22 = search (words-within, leb-true) in
+    let last : length (T.voicesText (mixerOf e .n)) ≤ 22 = search (words-within, leb-true) in
     simp length-append (omega (arith, decimal-within (longAt l 1), lasting-within (wideAt l 5), last))
 
-tone-within : (l : List ℕ) (e : AudioEngine) (c : Clock) → length (T.toneText l e c) ≤ 256
+tone-within : (l : List ℕ) (e : OpenBox) (c : Clock) → length (T.toneText l e c) ≤ 256
 unfolding T.toneText
 tone-within l e c =
     let name : length (T.toneName (byteAt l 7)) ≤ 8 = search (words-within, leb-true) in
     simp length-append (omega (arith, time-within c, name, sounding-within l e))
 
-polyblep-within : (l : List ℕ) (e : AudioEngine) (c : Clock) → length (T.polyblepText l e c) ≤ 256
+polyblep-within : (l : List ℕ) (e : OpenBox) (c : Clock) → length (T.polyblepText l e c) ≤ 256
 unfolding T.polyblepText
 polyblep-within l e c =
     let name : length (T.polyblepName (byteAt l 7)) ≤ 8 = search (words-within, leb-true) in
@@ -93,7 +94,7 @@ unfolding T.askText
 ask-within question answer c h =
     words-within 256 (eqb (byteAt answer 0) 0) _ _ refl (simp length-append (omega (arith, h, time-within c, end-within (byteAt answer 0))))
 
-pub line-within : (l answer : List ℕ) (e : AudioEngine) (c : Clock) → length (T.lineText l answer e c) ≤ 256
+pub line-within : (l answer : List ℕ) (e : OpenBox) (c : Clock) → length (T.lineText l answer e c) ≤ 256
 unfolding T.lineText
 line-within l answer e c =
     let code = byteAt l 0 in
@@ -107,7 +108,8 @@ line-within l answer e c =
     (either-within 256 (eqb code 0x1A) _ _ (ask-within (T.searchQuestion l) answer c (simp length-append (omega (arith, decimal-within (wideAt l 1)))))
     (either-within 256 (eqb code 0x1B) _ _ (ask-within T.payloadQuestion answer c (omega arith))
     (either-within 256 (eqb code 0x1C) _ _ (ask-within (T.voiceQuestion l) answer c (simp length-append (omega (arith, decimal-within (byteAt l 1)))))
-    (omega arith))))))))))
+    (either-within 256 (eqb code 0x70) _ _ (count-within (words "open a box of the present rules, ") (byteAt l 1) (words " voice") (longAt l 2) answer c (omega arith) (omega arith))
+    (omega arith)))))))))))
 
 pub total-within : (c : Clock) → length (T.totalText c) ≤ 256
 unfolding T.totalText

@@ -12,7 +12,8 @@ use Rattle.voice.specs.Voices.{audible}
 use Rattle.mixer.specs.Mixers.{voiceRead}
 use Rattle.mixer.specs.declared.VoiceRead.{VoiceRead}
 use Rattle.mixer.specs.declared.VoiceRead.the-variants as R
-use Rattle.engine.specs.declared.AudioEngine.{AudioEngine}
+use Rattle.replay_box.specs.Boxes.{mixerOf}
+use Rattle.replay_box.specs.declared.OpenBox.{OpenBox}
 
 -- document 01's numbers, in words
 unfoldable pub whyText : ℕ → List ℕ
@@ -52,6 +53,10 @@ countText head n name hz answer c =
 abbrev pub openText : List ℕ → List ℕ → Clock → List ℕ
 openText l answer c = countText (words "open ") (byteAt l 1) (words " voice") (longAt l 2) answer c
 
+-- and one of the present rules
+abbrev pub presentText : List ℕ → List ℕ → Clock → List ℕ
+presentText l answer c = countText (words "open a box of the present rules, ") (byteAt l 1) (words " voice") (longAt l 2) answer c
+
 abbrev pub bankText : List ℕ → List ℕ → Clock → List ℕ
 bankText l answer c = countText (words "set a bank of ") (wideAt l 5) (words " sound") (longAt l 1) answer c
 
@@ -61,14 +66,14 @@ takenText R.None = []
 takenText (R.Voice v) = cond (audible v) (words ", taken from priority " ++ decimal (v .priority)) []
 
 -- the voice that a request got
-unfoldable pub voiceText : AudioEngine → ℕ → List ℕ
-voiceText e voice = words ": voice " ++ decimal voice ++ takenText (voiceRead (e .state) voice)
+unfoldable pub voiceText : OpenBox → ℕ → List ℕ
+voiceText e voice = words ": voice " ++ decimal voice ++ takenText (voiceRead (mixerOf e) voice)
 
 -- what came of a request
-abbrev pub outcomeText : List ℕ → AudioEngine → List ℕ
+abbrev pub outcomeText : List ℕ → OpenBox → List ℕ
 outcomeText answer e = cond (eqb (numberIn answer) 0) (voiceText e (voiceIn answer) ++ words "\n") (endText (numberIn answer))
 
-unfoldable pub playText : List ℕ → List ℕ → AudioEngine → Clock → List ℕ
+unfoldable pub playText : List ℕ → List ℕ → OpenBox → Clock → List ℕ
 playText l answer e c = timeText c ++ words "play " ++ decimal (wideAt l 1) ++ words " at priority " ++ decimal (byteAt l 10) ++ outcomeText answer e
 
 -- when a fade that begins now will be over: its count of frames, in tenths of a millisecond, rounded up so that it is over by then; at rate 0 it
@@ -77,10 +82,10 @@ unfoldable pub overText : ℕ → ℕ → List ℕ
 overText ms rate =
     cond (eqb rate 0) (words ": over in 1 frame") (words ": over in " ++ tenthsText (roundedUp (10_000 * fadeCount (fadeStep ms rate)) rate) ++ words " ms")
 
-unfoldable pub fadeText : List ℕ → List ℕ → AudioEngine → Clock → List ℕ
+unfoldable pub fadeText : List ℕ → List ℕ → OpenBox → Clock → List ℕ
 fadeText l answer e c =
     timeText c ++ words "fade to " ++ decimal (wideAt l 1) ++ words " over " ++ decimal (wideAt l 3) ++ words " ms"
-    ++ cond (eqb (numberIn answer) 0) (overText (wideAt l 3) (e .state .config .«sample_rate_hz») ++ words "\n") (endText (numberIn answer))
+    ++ cond (eqb (numberIn answer) 0) (overText (wideAt l 3) (mixerOf e .config .«sample_rate_hz») ++ words "\n") (endText (numberIn answer))
 
 -- a tone of 0 ms never ends
 unfoldable pub lastingText : ℕ → List ℕ
@@ -91,19 +96,19 @@ abbrev pub voicesText : ℕ → List ℕ
 voicesText n = cond (eqb n 0) (words ": there are no voices\n") (words "\n")
 
 -- a frequency and how long
-unfoldable pub soundingText : List ℕ → AudioEngine → List ℕ
-soundingText l e = decimal (longAt l 1) ++ words " Hz" ++ lastingText (wideAt l 5) ++ voicesText (e .state .n)
+unfoldable pub soundingText : List ℕ → OpenBox → List ℕ
+soundingText l e = decimal (longAt l 1) ++ words " Hz" ++ lastingText (wideAt l 5) ++ voicesText (mixerOf e .n)
 
 abbrev pub toneName : ℕ → List ℕ
 toneName n = cond (eqb n 0) (words "square") (cond (eqb n 1) (words "sine") (words "triangle"))
 
-unfoldable pub toneText : List ℕ → AudioEngine → Clock → List ℕ
+unfoldable pub toneText : List ℕ → OpenBox → Clock → List ℕ
 toneText l e c = timeText c ++ toneName (byteAt l 7) ++ words " tone of " ++ soundingText l e
 
 abbrev pub polyblepName : ℕ → List ℕ
 polyblepName n = cond (eqb n 0) (words "sine") (cond (eqb n 1) (words "sawtooth") (cond (eqb n 2) (words "square") (words "triangle")))
 
-unfoldable pub polyblepText : List ℕ → AudioEngine → Clock → List ℕ
+unfoldable pub polyblepText : List ℕ → OpenBox → Clock → List ℕ
 polyblepText l e c = timeText c ++ words "PolyBLEP " ++ polyblepName (byteAt l 7) ++ words " of " ++ soundingText l e
 
 unfoldable pub stopText : Clock → List ℕ
@@ -122,8 +127,8 @@ payloadQuestion = words "look a payload up"
 abbrev pub voiceQuestion : List ℕ → List ℕ
 voiceQuestion l = words "find a voice at priority " ++ decimal (byteAt l 1)
 
--- a line of the script, its answer, the engine before it and the time; frames, pans and gains have no line
-unfoldable pub lineText : List ℕ → List ℕ → AudioEngine → Clock → List ℕ
+-- a line of the script, its answer, the box before it and the time; frames, pans and gains have no line
+unfoldable pub lineText : List ℕ → List ℕ → OpenBox → Clock → List ℕ
 lineText l answer e c =
     let code = byteAt l 0 in
     cond (eqb code 0x10) (openText l answer c)
@@ -136,7 +141,8 @@ lineText l answer e c =
     (cond (eqb code 0x1A) (askText (searchQuestion l) answer c)
     (cond (eqb code 0x1B) (askText payloadQuestion answer c)
     (cond (eqb code 0x1C) (askText (voiceQuestion l) answer c)
-    [])))))))))
+    (cond (eqb code 0x70) (presentText l answer c)
+    []))))))))))
 
 -- the account's last line; a frame has 4 bytes
 unfoldable pub totalText : Clock → List ℕ

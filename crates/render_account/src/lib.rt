@@ -1,12 +1,11 @@
 // What a person is told of a line of a script that was answered. The answer's text has the number first, then the voice.
 ghost use mathlib.Core.List.{_++_};
 ghost use Rattle.render_texts.specs.Texts.{Says, Tells, Adds, decimal};
-ghost use Rattle.engine.specs.Engines.{ValidEngine};
+ghost use Rattle.replay_box.specs.Boxes.{ValidBox};
 ghost use Rattle.render_account.specs.Account as T;
 
 mod words;
 
-use engine::AudioEngine;
 use hex::byte_at;
 use hex::long_at;
 use hex::wide_at;
@@ -18,6 +17,7 @@ use render_texts::empty;
 use render_texts::say;
 use render_texts::so_long;
 use render_texts::things;
+use replay_box::OpenBox;
 use words::ended;
 use words::over;
 use words::sounding;
@@ -38,6 +38,20 @@ fn opened(l: &[u8], answer: &[u8], c: Clock) -> Text
     counted(b"open ", n, b" voice", long_at(l, 2), answer, c)
 }
 
+fn opened_present(l: &[u8], answer: &[u8], c: Clock) -> Text
+    ensures { λ r. ⌜ Says (T.presentText (now (l .entry)) (now (answer .entry)) c) r ⌝ }
+{
+    let n = byte_at(l, 1) as u64;
+    counted(
+        b"open a box of the present rules, ",
+        n,
+        b" voice",
+        long_at(l, 2),
+        answer,
+        c,
+    )
+}
+
 fn banked(l: &[u8], answer: &[u8], c: Clock) -> Text
     ensures { λ r. ⌜ Says (T.bankText (now (l .entry)) (now (answer .entry)) c) r ⌝ }
 {
@@ -45,8 +59,8 @@ fn banked(l: &[u8], answer: &[u8], c: Clock) -> Text
     counted(b"set a bank of ", n, b" sound", long_at(l, 1), answer, c)
 }
 
-fn played(l: &[u8], answer: &[u8], e: AudioEngine, c: Clock) -> Text
-    requires { ⌜ ValidEngine e ⌝ }
+fn played(l: &[u8], answer: &[u8], e: OpenBox, c: Clock) -> Text
+    requires { ⌜ ValidBox e ⌝ }
     ensures { λ r. ⌜ Says (T.playText (now (l .entry)) (now (answer .entry)) e c) r ⌝ }
 {
     let id = count(say(at_time(c), b"play "), wide_at(l, 1) as u64);
@@ -58,7 +72,7 @@ fn played(l: &[u8], answer: &[u8], e: AudioEngine, c: Clock) -> Text
     ended(asked, number)
 }
 
-fn faded(l: &[u8], answer: &[u8], e: AudioEngine, c: Clock) -> Text
+fn faded(l: &[u8], answer: &[u8], e: OpenBox, c: Clock) -> Text
     ensures { λ r. ⌜ Says (T.fadeText (now (l .entry)) (now (answer .entry)) e c) r ⌝ }
 {
     let id = count(say(at_time(c), b"fade to "), wide_at(l, 1) as u64);
@@ -82,7 +96,7 @@ fn tone_name(t: Text, waveform: u8) -> Text
     }
 }
 
-fn toned(l: &[u8], e: AudioEngine, c: Clock) -> Text
+fn toned(l: &[u8], e: OpenBox, c: Clock) -> Text
     ensures { λ r. ⌜ Says (T.toneText (now (l .entry)) e c) r ⌝ }
 {
     let name = tone_name(at_time(c), byte_at(l, 7));
@@ -100,7 +114,7 @@ fn polyblep_name(t: Text, waveform: u8) -> Text
     }
 }
 
-fn polybleped(l: &[u8], e: AudioEngine, c: Clock) -> Text
+fn polybleped(l: &[u8], e: OpenBox, c: Clock) -> Text
     ensures { λ r. ⌜ Says (T.polyblepText (now (l .entry)) e c) r ⌝ }
 {
     let name = polyblep_name(say(at_time(c), b"PolyBLEP "), byte_at(l, 7));
@@ -152,8 +166,8 @@ fn allocated(l: &[u8], answer: &[u8], c: Clock) -> Text
 }
 
 // Frames, and calls that only ask and are answered, have no line in the account.
-pub fn tell(l: &[u8], answer: &[u8], e: AudioEngine, c: Clock) -> Text
-    requires { ⌜ ValidEngine e ⌝ }
+pub fn tell(l: &[u8], answer: &[u8], e: OpenBox, c: Clock) -> Text
+    requires { ⌜ ValidBox e ⌝ }
     ensures { λ r. ⌜ Tells (T.lineText (now (l .entry)) (now (answer .entry)) e c) r ⌝ }
 {
     match byte_at(l, 0) {
@@ -167,6 +181,7 @@ pub fn tell(l: &[u8], answer: &[u8], e: AudioEngine, c: Clock) -> Text
         0x1a => searched(l, answer, c),
         0x1b => looked_up(answer, c),
         0x1c => allocated(l, answer, c),
+        0x70 => opened_present(l, answer, c),
         _ => empty(),
     }
 }

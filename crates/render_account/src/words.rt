@@ -1,8 +1,7 @@
 // Pieces of the account's lines.
 ghost use Rattle.render_texts.specs.Texts.{Adds};
-ghost use Rattle.engine.specs.Engines.{ValidEngine};
+ghost use Rattle.replay_box.specs.Boxes.{ValidBox};
 ghost use Rattle.render_account.specs.Account as T;
-use engine::AudioEngine;
 use hex::long_at;
 use hex::wide_at;
 use mixer::VoiceRead;
@@ -10,6 +9,7 @@ use render_texts::Text;
 use render_texts::count;
 use render_texts::say;
 use render_texts::tenths;
+use replay_box::OpenBox;
 
 // Why a call is turned down: document 01's numbers in words.
 fn why(t: Text, number: u8) -> Text
@@ -49,8 +49,8 @@ pub(crate) fn ended(t: Text, number: u8) -> Text
 }
 
 // The voice that a request got; where it was audible, whose it was.
-pub(crate) fn voiced(t: Text, e: AudioEngine, voice: u8) -> Text
-    requires { ⌜ ValidEngine e ⌝ }
+pub(crate) fn voiced(t: Text, e: OpenBox, voice: u8) -> Text
+    requires { ⌜ ValidBox e ⌝ }
     ensures { λ r. ⌜ Adds t (T.voiceText e voice) r ⌝ }
 {
     let got = count(say(t, b": voice "), voice as u64);
@@ -89,7 +89,7 @@ fn lasting(t: Text, ms: u16) -> Text
 }
 
 // A frequency and how long; a box of no voices has none to sound it.
-pub(crate) fn sounding(t: Text, l: &[u8], e: AudioEngine) -> Text
+pub(crate) fn sounding(t: Text, l: &[u8], e: OpenBox) -> Text
     ensures { λ r. ⌜ Adds t (T.soundingText (now (l .entry)) e) r ⌝ }
 {
     let hz = say(count(t, long_at(l, 1) as u64), b" Hz");

@@ -6,25 +6,24 @@ use Prim.Native.Nat.{ℕ, _*_, _/_, _≤_}
 use native.Mathlib.Omega.{arith}
 use lib.Dec.{leb}
 use lib.ListN.{length}
-use Rattle.mixer.specs.declared.Mixer.{Mixer}
-use Rattle.frame.specs.Frames.{monoFrame, stereoFrame}
-use Rattle.frame.specs.Runs.{monoStep, stereoStep}
 use Rattle.buffers.specs.Buffers.{toI16}
 use Rattle.hex.specs.Hex.{byteAt, wideAt}
+use Rattle.replay_box.specs.Frames.{frames}
+use Rattle.replay_box.specs.declared.OpenBox.{OpenBox}
 use Rattle.replay_session.specs.Sessions.{fillAllowed, isFill, isLine}
 use Rattle.replay_session.proofs.Calling.{few-cells}
 use Rattle.replay_session.specs.declared.Session.{Session}
 use Rattle.render_sounds.specs.Sounds.{isStereo, filledFrames, isOneFrame, framesFor, framesOf, cellsOf, soundOf}
 use Rattle.render_sounds.proofs.Pairs.{pairs-length}
 
-cells-length : (stereo : Bool) (n : ℕ) (m : Mixer) → length (cellsOf stereo n m) ≡ 2 * n
-cells-length true n m = pairs-length stereoStep (λ m. toI16 (stereoFrame m .left)) (λ m. toI16 (stereoFrame m .right)) n m
-cells-length false n m = pairs-length monoStep (λ m. toI16 (monoFrame m .pcm)) (λ m. toI16 (monoFrame m .pcm)) n m
+cells-length : (stereo : Bool) (n : ℕ) (b : OpenBox) → length (cellsOf stereo n b) ≡ 2 * n
+cells-length true n b = pairs-length (frames .stereo) (λ b. toI16 (frames .left b)) (λ b. toI16 (frames .right b)) n b
+cells-length false n b = pairs-length (frames .mono) (λ b. toI16 (frames .pcm b)) (λ b. toI16 (frames .pcm b)) n b
 
 -- two cells a frame
 pub sound-length : (s : Session) (l : List ℕ) → length (soundOf s l) ≡ 2 * framesOf (s .«is_open») l
 unfolding soundOf
-sound-length s l = cells-length (isStereo (byteAt l 0)) (framesOf (s .«is_open») l) (s .engine .state)
+sound-length s l = cells-length (isStereo (byteAt l 0)) (framesOf (s .«is_open») l) (s .held)
 
 either : (t : Bool) (a b : ℕ) → (t ≡ true → a ≤ 2048) → b ≤ 2048 → cond t a b ≤ 2048
 either true a b h k = h refl

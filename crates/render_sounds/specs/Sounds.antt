@@ -2,15 +2,18 @@
 use Prim.Native.Nat.{ℕ, _/_}
 use mathlib.Core.Path.{_≡_}
 use mathlib.Core.Bool.{Bool, cond, _&&_, _||_}
-use mathlib.Core.List.{List, [], _++_}
+use mathlib.Core.List.{List, _++_, map}
 use lib.Dec.{leb, eqb}
 use lib.IntN.{ℤ}
 use lib.ListN.{length, drop}
 use Rattle.laws.specs.Runs.{given}
-use Rattle.mixer.specs.declared.Mixer.{Mixer}
-use Rattle.frame.specs.Runs.{monoStep, stereoStep}
-use Rattle.buffers.specs.Buffers.{toI16, doubled, sides}
+use Rattle.buffers.specs.Buffers.{toI16}
+use Rattle.buffers.specs.Shapes.{shapeStep, shapeRaw}
+use Rattle.buffers.specs.declared.Shape.{Shape}
+use Rattle.buffers.specs.declared.Shape.the-variants.{Doubled, Sides}
 use Rattle.hex.specs.Hex.{byteAt, wideAt}
+use Rattle.replay_box.specs.Frames.{frames}
+use Rattle.replay_box.specs.declared.OpenBox.{OpenBox}
 use Rattle.replay_calls.specs.Calls.{sizedAs}
 use Rattle.replay_session.specs.Sessions.{fillAllowed, isFill, isLine}
 use Rattle.replay_session.specs.declared.Session.{Session}
@@ -31,17 +34,20 @@ isOneFrame code l = sizedAs 0 l && (eqb code 0x2B || eqb code 0x2C || eqb code 0
 unfoldable pub framesFor : ℕ → List ℕ → ℕ
 framesFor code l = cond (isFill code) (filledFrames code l) (cond (isOneFrame code l) 1 0)
 
--- a line that is no line of a script makes none, and so does every line before an engine is open
+-- a line that is no line of a script makes none, and so does every line before a box is open
 unfoldable pub framesOf : Bool → List ℕ → ℕ
 framesOf isOpen l = cond (isOpen && isLine l) (framesFor (byteAt l 0) l) 0
 
--- the cells of n frames from a state on: a mono frame sounds on both sides
-abbrev pub cellsOf : Bool → ℕ → Mixer → List ℤ
-cellsOf stereo n m = cond stereo (given stereoStep (sides toI16) n m) (given monoStep (doubled toI16) n m)
+-- the cells of n frames of a box: a mono frame sounds on both sides
+abbrev pub cellsBy : Shape → ℕ → OpenBox → List ℤ
+cellsBy shape n b = given (shapeStep frames shape) (λ b. map toI16 (shapeRaw frames shape b)) n b
+
+abbrev pub cellsOf : Bool → ℕ → OpenBox → List ℤ
+cellsOf stereo n b = cond stereo (cellsBy Sides n b) (cellsBy Doubled n b)
 
 -- what a line sounds like, from the run before it
 unfoldable pub soundOf : Session → List ℕ → List ℤ
-soundOf s l = cellsOf (isStereo (byteAt l 0)) (framesOf (s .«is_open») l) (s .engine .state)
+soundOf s l = cellsOf (isStereo (byteAt l 0)) (framesOf (s .«is_open») l) (s .held)
 
 -- so many cells at the front of a buffer, and the rest as before
 pub record Sounds (cells before after : List ℤ) (r : ℕ) : Type 0 where

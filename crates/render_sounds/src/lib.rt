@@ -1,15 +1,16 @@
 // What a line of a replay script sounds like. The session's own answer moves the run on; the sound is worked out beside it, on a copy of
-// the engine.
+// the box.
 ghost use mathlib.Core.Path.{_≡_};
 ghost use Prim.Native.Nat.{_*_, _≤_};
 ghost use lib.ListN.{length};
-ghost use Rattle.engine.specs.Engines.{ValidEngine};
+ghost use Rattle.replay_box.specs.Boxes.{ValidBox};
 ghost use Rattle.replay_session.specs.Sessions.{ValidSession};
 ghost use Rattle.render_sounds.specs.Sounds.{isStereo, filledFrames, isOneFrame, framesFor, framesOf, cellsOf, soundOf, Sounds};
-use engine::AudioEngine;
+use buffers::Shape;
 use hex::all_digits;
 use hex::byte_at;
 use hex::wide_at;
+use replay_box::OpenBox;
 use replay_session::Session;
 
 fn is_stereo(code: u8) -> bool
@@ -73,17 +74,17 @@ fn frames(l: &[u8], is_open: bool) -> usize
 }
 
 // The cells of n frames at the front of the buffer.
-fn put(stereo: bool, n: usize, e: AudioEngine, out: &mut [i16]) -> usize
-    requires { ⌜ ValidEngine e ⌝ }
+fn put(stereo: bool, n: usize, b: OpenBox, out: &mut [i16]) -> usize
+    requires { ⌜ ValidBox b ⌝ }
     requires { ⌜ 2 * n ≤ length (now out) ⌝ }
-    ensures { λ r. ⌜ Sounds (cellsOf stereo n (e .state)) (now (out .entry)) (now (out .exit)) r ⌝ }
+    ensures { λ r. ⌜ Sounds (cellsOf stereo n b) (now (out .entry)) (now (out .exit)) r ⌝ }
 {
     let cells = 2 * n;
     if stereo {
-        let f = e.fill_stereo_panned_i16_buffer(&mut out[..cells]);
+        let f = b.fill_i16(Shape::Sides, &mut out[..cells]);
         return f.filled;
     }
-    let f = e.fill_stereo_i16_buffer(&mut out[..cells]);
+    let f = b.fill_i16(Shape::Doubled, &mut out[..cells]);
     f.filled
 }
 
@@ -93,6 +94,6 @@ pub fn sound(line: &[u8], s: Session, out: &mut [i16; 4096]) -> usize
     ensures { λ r. ⌜ Sounds (soundOf s (now (line .entry))) (now (out .entry)) (now (out .exit)) r ⌝ }
 {
     let n = frames(line, s.is_open());
-    let e = s.engine();
-    put(is_stereo(byte_at(line, 0)), n, e, out)
+    let b = s.held();
+    put(is_stereo(byte_at(line, 0)), n, b, out)
 }

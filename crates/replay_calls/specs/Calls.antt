@@ -15,20 +15,19 @@ use Rattle.mixer.specs.Mixers as M
 use Rattle.mixer.specs.declared.Outcome.{Outcome}
 use Rattle.mixer.specs.declared.PanRead.{PanRead}
 use Rattle.mixer.specs.declared.PanRead.the-variants as Q
-use Rattle.frame.specs.Frames.{monoFrame, stereoFrame, dutyFrame}
 use Rattle.frame.specs.Lasting.{framesLeft}
-use Rattle.play.specs.Plays.{played, toldPlay, toned, polyBleped}
-use Rattle.play.specs.Fades.{faded}
+use Rattle.play.specs.Plays.{toldPlay}
 use Rattle.play.specs.declared.PlayOutcome.{PlayOutcome}
-use Rattle.engine.specs.Engines.{ValidEngine, boxed, changedBox, playedBox, requestOf}
-use Rattle.engine.specs.declared.AudioEngine.{AudioEngine}
-use Rattle.engine.specs.declared.EngineChanged.{EngineChanged}
-use Rattle.engine.specs.declared.EnginePlayed.{EnginePlayed}
-use Rattle.engine.specs.Ticks.{sampleBox, sidesBox, dutyBox, wideSides}
-use Rattle.engine.specs.declared.ticks.EngineDuty.{EngineDuty}
-use Rattle.engine.specs.declared.ticks.EngineSample.{EngineSample}
-use Rattle.engine.specs.declared.ticks.EngineSides.{EngineSides}
-use Rattle.engine.specs.declared.ticks.EngineWideSides.{EngineWideSides}
+use Rattle.sounder.specs.Sounders.{requestOf}
+use Rattle.replay_box.specs.Boxes.{ValidBox, mixerOf, banked, played, faded, toned, polyBleped, panned, withMasterGain, stopped}
+use Rattle.replay_box.specs.Frames.{sampled, dutied, sided, wideSided}
+use Rattle.replay_box.specs.declared.OpenBox.{OpenBox}
+use Rattle.replay_box.specs.declared.BoxChanged.{BoxChanged}
+use Rattle.replay_box.specs.declared.BoxPlayed.{BoxPlayed}
+use Rattle.replay_box.specs.declared.ticks.BoxDuty.{BoxDuty}
+use Rattle.replay_box.specs.declared.ticks.BoxSample.{BoxSample}
+use Rattle.replay_box.specs.declared.ticks.BoxSides.{BoxSides}
+use Rattle.replay_box.specs.declared.ticks.BoxWideSides.{BoxWideSides}
 use Rattle.hex.specs.Hex.{byteAt, wideAt, longAt}
 use Rattle.replay_fields.specs.Read.{specAt, toneWaveform, polyBlepWaveform}
 use Rattle.replay_fields.specs.States.{flagNumber}
@@ -37,7 +36,7 @@ use Rattle.replay_calls.specs.declared.Reply.the-variants as R
 use Rattle.replay_calls.specs.declared.Called.{Called}
 
 abbrev pub ValidCalled : Called → Type 0
-ValidCalled c = ValidEngine (c .engine)
+ValidCalled c = ValidBox (c .held)
 
 -- a line of so many bytes after its code
 abbrev pub sizedAs : ℕ → List ℕ → Bool
@@ -76,8 +75,8 @@ allowed code l =
 abbrev pub outcomeReply : Outcome → Reply
 outcomeReply o = R.Number (numberIn (M.toldOutcome o))
 
-abbrev pub changedCall : EngineChanged → Called
-changedCall c = record { reply = outcomeReply (c .outcome); engine = c .engine }
+abbrev pub changedCall : BoxChanged → Called
+changedCall c = record { reply = outcomeReply (c .outcome); held = c .held }
 
 -- "voice: two digits, FF where refused"
 abbrev pub placeReply : Told ℕ → Reply
@@ -87,110 +86,110 @@ placeReply (refused n) = R.Two n 0xFF
 abbrev pub playReply : PlayOutcome → Reply
 playReply o = placeReply (toldPlay o)
 
-abbrev pub playedCall : EnginePlayed → Called
-playedCall p = record { reply = playReply (p .outcome); engine = p .engine }
+abbrev pub playedCall : BoxPlayed → Called
+playedCall p = record { reply = playReply (p .outcome); held = p .held }
 
 -- a call that prints nothing, and one that changes nothing
-abbrev pub silentCall : AudioEngine → Called
-silentCall e = record { reply = R.Nothing; engine = e }
+abbrev pub silentCall : OpenBox → Called
+silentCall e = record { reply = R.Nothing; held = e }
 
-abbrev pub asked : Reply → AudioEngine → Called
-asked r e = record { reply = r; engine = e }
+abbrev pub asked : Reply → OpenBox → Called
+asked r e = record { reply = r; held = e }
 
 -- 11, set bank: "rate (4), count (2); its bytes are the ones lent | number"
-unfoldable pub bankCall : List ℕ → List ℕ → AudioEngine → Called
-bankCall l bytes e = changedCall (changedBox (M.banked (e .state) (longAt l 1) (wideAt l 5) (length bytes)))
+unfoldable pub bankCall : List ℕ → List ℕ → OpenBox → Called
+bankCall l bytes e = changedCall (banked e (longAt l 1) (wideAt l 5) (length bytes))
 
 -- 13, play: "id (2), E, priority (1) | number, voice"
-unfoldable pub playCall : List ℕ → List ℕ → AudioEngine → Called
-playCall l bytes e = playedCall (playedBox (played (e .state) bytes (requestOf (wideAt l 1) (specAt l 3) (byteAt l 10))))
+unfoldable pub playCall : List ℕ → List ℕ → OpenBox → Called
+playCall l bytes e = playedCall (played e bytes (requestOf (wideAt l 1) (specAt l 3) (byteAt l 10)))
 
 -- 14, fade: "id (2), ms (2), E | number"
-unfoldable pub fadeCall : List ℕ → List ℕ → AudioEngine → Called
-fadeCall l bytes e = changedCall (changedBox (faded (e .state) bytes (wideAt l 1) (wideAt l 3) (specAt l 5)))
+unfoldable pub fadeCall : List ℕ → List ℕ → OpenBox → Called
+fadeCall l bytes e = changedCall (faded e bytes (wideAt l 1) (wideAt l 3) (specAt l 5))
 
 -- 15, tone: "Hz (4), ms (2), waveform (1) | nothing"
-unfoldable pub toneCall : List ℕ → AudioEngine → Called
-toneCall l e = silentCall (boxed (toned (e .state) (longAt l 1) (wideAt l 5) (toneWaveform (byteAt l 7))))
+unfoldable pub toneCall : List ℕ → OpenBox → Called
+toneCall l e = silentCall (toned e (longAt l 1) (wideAt l 5) (toneWaveform (byteAt l 7)))
 
 -- 16, PolyBLEP: "Hz (4), ms (2), waveform (1) | nothing"
-unfoldable pub polyBlepCall : List ℕ → AudioEngine → Called
-polyBlepCall l e = silentCall (boxed (polyBleped (e .state) (longAt l 1) (wideAt l 5) (polyBlepWaveform (byteAt l 7))))
+unfoldable pub polyBlepCall : List ℕ → OpenBox → Called
+polyBlepCall l e = silentCall (polyBleped e (longAt l 1) (wideAt l 5) (polyBlepWaveform (byteAt l 7)))
 
 -- 17, pan: "voice (1), pan (1) | nothing"
-unfoldable pub panCall : List ℕ → AudioEngine → Called
-panCall l e = silentCall (boxed (M.panned (e .state) (byteAt l 1) (byteAt l 2)))
+unfoldable pub panCall : List ℕ → OpenBox → Called
+panCall l e = silentCall (panned e (byteAt l 1) (byteAt l 2))
 
 -- 18, master gain: "gain (1) | nothing"
-unfoldable pub gainCall : List ℕ → AudioEngine → Called
-gainCall l e = silentCall (boxed (M.withMasterGain (e .state) (byteAt l 1)))
+unfoldable pub gainCall : List ℕ → OpenBox → Called
+gainCall l e = silentCall (withMasterGain e (byteAt l 1))
 
 -- 19, stop all: "nothing"
-unfoldable pub stopCall : AudioEngine → Called
-stopCall e = silentCall (boxed (M.stopped (e .state)))
+unfoldable pub stopCall : OpenBox → Called
+stopCall e = silentCall (stopped e)
 
 -- 1A, entry search: "id (2) | number; if 00 also .." the entry
 abbrev pub entryReply : Told EffectEntry → Reply
 entryReply (value entry) = R.Entry entry
 entryReply (refused n) = R.Number n
 
-unfoldable pub searchCall : List ℕ → List ℕ → AudioEngine → Called
-searchCall l bytes e = asked (entryReply (foundGiven (e .state .bank) bytes (wideAt l 1))) e
+unfoldable pub searchCall : List ℕ → List ℕ → OpenBox → Called
+searchCall l bytes e = asked (entryReply (foundGiven (mixerOf e .bank) bytes (wideAt l 1))) e
 
 -- 1C, allocate: "priority (1) | number (5 where there is none), voice"
-unfoldable pub allocateCall : List ℕ → AudioEngine → Called
-allocateCall l e = asked (placeReply (allocated (e .state) (byteAt l 1))) e
+unfoldable pub allocateCall : List ℕ → OpenBox → Called
+allocateCall l e = asked (placeReply (allocated (mixerOf e) (byteAt l 1))) e
 
 -- 1D, is playing, audible count: "two numbers of 2 digits"
-unfoldable pub audibleCall : AudioEngine → Called
-audibleCall e = asked (R.Two (flagNumber (M.playing (e .state))) (M.audibleCount (e .state))) e
+unfoldable pub audibleCall : OpenBox → Called
+audibleCall e = asked (R.Two (flagNumber (M.playing (mixerOf e))) (M.audibleCount (mixerOf e))) e
 
 -- 2B, one stereo frame, i8: "left, right (2 digits each)"
-abbrev pub sidesCall : EngineSides → Called
-sidesCall f = asked (R.Two (ofZ w8 (f .left)) (ofZ w8 (f .right))) (f .engine)
+abbrev pub sidesCall : BoxSides → Called
+sidesCall f = asked (R.Two (ofZ w8 (f .left)) (ofZ w8 (f .right))) (f .held)
 
-unfoldable pub stereoCall : AudioEngine → Called
-stereoCall e = sidesCall (sidesBox (stereoFrame (e .state)))
+unfoldable pub stereoCall : OpenBox → Called
+stereoCall e = sidesCall (sided e)
 
 -- 2C, one duty: "4 digits"
-abbrev pub widthCall : EngineDuty → Called
-widthCall f = asked (R.Wide (f .duty)) (f .engine)
+abbrev pub widthCall : BoxDuty → Called
+widthCall f = asked (R.Wide (f .duty)) (f .held)
 
-unfoldable pub dutyCall : AudioEngine → Called
-dutyCall e = widthCall (dutyBox (dutyFrame (e .state)))
+unfoldable pub dutyCall : OpenBox → Called
+dutyCall e = widthCall (dutied e)
 
 -- 62, play: "id (2), E | number, voice", at the priority of a play request that names none
-unfoldable pub plainPlayCall : List ℕ → List ℕ → AudioEngine → Called
-plainPlayCall l bytes e = playedCall (playedBox (played (e .state) bytes (requestOf (wideAt l 1) (specAt l 3) 128)))
+unfoldable pub plainPlayCall : List ℕ → List ℕ → OpenBox → Called
+plainPlayCall l bytes e = playedCall (played e bytes (requestOf (wideAt l 1) (specAt l 3) 128))
 
 -- 63, pan of a voice: "voice (1) | 01 and the pan, or 00 where there is no such voice"
 abbrev pub panReply : PanRead → Reply
 panReply (Q.Pan pan) = R.Two 1 pan
 panReply Q.None = R.Number 0
 
-unfoldable pub panReadCall : List ℕ → AudioEngine → Called
-panReadCall l e = asked (panReply (M.panRead (e .state) (byteAt l 1))) e
+unfoldable pub panReadCall : List ℕ → OpenBox → Called
+panReadCall l e = asked (panReply (M.panRead (mixerOf e) (byteAt l 1))) e
 
 -- 66, one PCM sample: "2 digits"
-abbrev pub pcmCall : EngineSample → Called
-pcmCall f = asked (R.Number (ofZ w8 (f .pcm))) (f .engine)
+abbrev pub pcmCall : BoxSample → Called
+pcmCall f = asked (R.Number (ofZ w8 (f .pcm))) (f .held)
 
-unfoldable pub sampleCall : AudioEngine → Called
-sampleCall e = pcmCall (sampleBox (monoFrame (e .state)))
+unfoldable pub sampleCall : OpenBox → Called
+sampleCall e = pcmCall (sampled e)
 
 -- 68, one stereo frame, i16: "left, right (4 digits each)"
-abbrev pub wideSidesCall : EngineWideSides → Called
-wideSidesCall f = asked (R.WideTwo (ofZ w16 (f .left)) (ofZ w16 (f .right))) (f .engine)
+abbrev pub wideSidesCall : BoxWideSides → Called
+wideSidesCall f = asked (R.WideTwo (ofZ w16 (f .left)) (ofZ w16 (f .right))) (f .held)
 
-unfoldable pub wideStereoCall : AudioEngine → Called
-wideStereoCall e = wideSidesCall (wideSides (sidesBox (stereoFrame (e .state))))
+unfoldable pub wideStereoCall : OpenBox → Called
+wideStereoCall e = wideSidesCall (wideSided e)
 
 -- 79, frames that the fade has left: "2 digits"
-unfoldable pub fadeLeftCall : AudioEngine → Called
-fadeLeftCall e = asked (R.Number (framesLeft (e .state))) e
+unfoldable pub fadeLeftCall : OpenBox → Called
+fadeLeftCall e = asked (R.Number (framesLeft (mixerOf e))) e
 
--- the records from 62 on. 64, 65 and 69 print what the engine holds; 67 is one duty, as 2C is.
-unfoldable pub laterCall : ℕ → List ℕ → List ℕ → AudioEngine → Called
+-- the records from 62 on. 64, 65 and 69 print what the box holds; 67 is one duty, as 2C is.
+unfoldable pub laterCall : ℕ → List ℕ → List ℕ → OpenBox → Called
 laterCall code l bytes e =
     cond (eqb code 0x62) (plainPlayCall l bytes e)
     (cond (eqb code 0x63) (panReadCall l e)
@@ -202,8 +201,8 @@ laterCall code l bytes e =
     (cond (eqb code 0x69) (asked (R.Voice (byteAt l 1)) e)
     (cond (eqb code 0x79) (fadeLeftCall e) (asked R.Bad e)))))))))
 
--- by the code. 1B and 30 print what the engine holds.
-unfoldable pub callFor : ℕ → List ℕ → List ℕ → AudioEngine → Called
+-- by the code. 1B and 30 print what the box holds.
+unfoldable pub callFor : ℕ → List ℕ → List ℕ → OpenBox → Called
 callFor code l bytes e =
     cond (eqb code 0x11) (bankCall l bytes e)
     (cond (eqb code 0x13) (playCall l bytes e)
@@ -221,6 +220,6 @@ callFor code l bytes e =
     (cond (eqb code 0x2C) (dutyCall e)
     (cond (eqb code 0x30) (asked R.Dump e) (laterCall code l bytes e)))))))))))))))
 
--- the bytes are those lent; a bad line asks nothing of the engine
-unfoldable pub called : List ℕ → List ℕ → AudioEngine → Called
+-- the bytes are those lent; a bad line asks nothing of the box
+unfoldable pub called : List ℕ → List ℕ → OpenBox → Called
 called l bytes e = cond (allowed (byteAt l 0) l) (callFor (byteAt l 0) l bytes e) (asked R.Bad e)

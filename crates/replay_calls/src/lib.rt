@@ -1,4 +1,4 @@
-// The records of an open engine: each makes its call and says what is answered.
+// The records of an open held: each makes its call and says what is answered.
 ghost use mathlib.Core.Path.{_≡_};
 ghost use mathlib.Core.Bool.{_&&_};
 ghost use lib.Dec.{leb};
@@ -6,12 +6,11 @@ ghost use Rattle.laws.specs.Made.{Made};
 ghost use Rattle.hex.specs.Hex.{byteAt};
 ghost use Rattle.allocate.specs.Allocation.{toldPlace};
 ghost use Rattle.bank.specs.Entries.{toldEntry};
-ghost use Rattle.engine.specs.Engines.{ValidEngine};
+ghost use Rattle.replay_box.specs.Boxes.{ValidBox};
 ghost use Rattle.replay_calls.specs.Calls.{ValidCalled, sizedAs, allowed, outcomeReply, playReply, bankCall, playCall, fadeCall, toneCall, polyBlepCall, panCall, gainCall, stopCall, entryReply, searchCall, placeReply, allocateCall, audibleCall, stereoCall, dutyCall, plainPlayCall, panReply, panReadCall, sampleCall, wideStereoCall, fadeLeftCall, laterCall, callFor, called};
 use allocate::Allocated;
 use bank::EffectEntry;
 use bank::EntryRead;
-use engine::AudioEngine;
 use fixed::as_u8;
 use hex::byte_at;
 use hex::long_at;
@@ -20,6 +19,7 @@ use hex::wide_at;
 use mixer::Outcome;
 use mixer::PanRead;
 use play::PlayOutcome;
+use replay_box::OpenBox;
 use replay_fields::flag_number;
 use replay_fields::polyblep_waveform;
 use replay_fields::spec_at;
@@ -42,10 +42,10 @@ pub enum Reply {
     Voice(u8),
 }
 
-// The engine after the call.
+// The box after the call.
 pub struct Called {
     pub reply: Reply,
-    pub engine: AudioEngine,
+    pub held: OpenBox,
 }
 
 // 15 and 16: the last waveform of each is given.
@@ -125,175 +125,175 @@ fn allocated_reply(a: Allocated) -> Reply
     }
 }
 
-fn bank_call(l: &[u8], bytes: &[u8], e: AudioEngine) -> Called
-    requires { ⌜ ValidEngine e ⌝ }
+fn bank_call(l: &[u8], bytes: &[u8], e: OpenBox) -> Called
+    requires { ⌜ ValidBox e ⌝ }
     ensures { λ r. ⌜ Made ValidCalled (bankCall (now (l .entry)) (now (bytes .entry)) e) r ⌝ }
 {
     let c = e.set_bank(bytes, long_at(l, 1), wide_at(l, 5));
     let outcome = c.outcome;
-    let engine = c.engine;
+    let held = c.held;
     Called {
         reply: outcome_reply(outcome),
-        engine,
+        held,
     }
 }
 
-fn play_call(l: &[u8], bytes: &[u8], e: AudioEngine) -> Called
-    requires { ⌜ ValidEngine e ⌝ }
+fn play_call(l: &[u8], bytes: &[u8], e: OpenBox) -> Called
+    requires { ⌜ ValidBox e ⌝ }
     ensures { λ r. ⌜ Made ValidCalled (playCall (now (l .entry)) (now (bytes .entry)) e) r ⌝ }
 {
     let adsr = spec_at(l, 3);
     let p = e.play_with_priority(bytes, wide_at(l, 1), adsr, byte_at(l, 10));
     let outcome = p.outcome;
-    let engine = p.engine;
+    let held = p.held;
     Called {
         reply: play_reply(outcome),
-        engine,
+        held,
     }
 }
 
-fn fade_call(l: &[u8], bytes: &[u8], e: AudioEngine) -> Called
-    requires { ⌜ ValidEngine e ⌝ }
+fn fade_call(l: &[u8], bytes: &[u8], e: OpenBox) -> Called
+    requires { ⌜ ValidBox e ⌝ }
     ensures { λ r. ⌜ Made ValidCalled (fadeCall (now (l .entry)) (now (bytes .entry)) e) r ⌝ }
 {
     let adsr = spec_at(l, 5);
     let c = e.crossfade_to(bytes, wide_at(l, 1), wide_at(l, 3), adsr);
     let outcome = c.outcome;
-    let engine = c.engine;
+    let held = c.held;
     Called {
         reply: outcome_reply(outcome),
-        engine,
+        held,
     }
 }
 
-fn tone_call(l: &[u8], e: AudioEngine) -> Called
-    requires { ⌜ ValidEngine e ⌝ }
+fn tone_call(l: &[u8], e: OpenBox) -> Called
+    requires { ⌜ ValidBox e ⌝ }
     ensures { λ r. ⌜ Made ValidCalled (toneCall (now (l .entry)) e) r ⌝ }
 {
     let waveform = tone_waveform(byte_at(l, 7));
-    let engine = e.play_tone(long_at(l, 1), wide_at(l, 5), waveform);
+    let held = e.play_tone(long_at(l, 1), wide_at(l, 5), waveform);
     Called {
         reply: Reply::Nothing,
-        engine,
+        held,
     }
 }
 
-fn polyblep_call(l: &[u8], e: AudioEngine) -> Called
-    requires { ⌜ ValidEngine e ⌝ }
+fn polyblep_call(l: &[u8], e: OpenBox) -> Called
+    requires { ⌜ ValidBox e ⌝ }
     ensures { λ r. ⌜ Made ValidCalled (polyBlepCall (now (l .entry)) e) r ⌝ }
 {
     let waveform = polyblep_waveform(byte_at(l, 7));
-    let engine = e.play_polyblep(long_at(l, 1), wide_at(l, 5), waveform);
+    let held = e.play_polyblep(long_at(l, 1), wide_at(l, 5), waveform);
     Called {
         reply: Reply::Nothing,
-        engine,
+        held,
     }
 }
 
-fn pan_call(l: &[u8], e: AudioEngine) -> Called
-    requires { ⌜ ValidEngine e ⌝ }
+fn pan_call(l: &[u8], e: OpenBox) -> Called
+    requires { ⌜ ValidBox e ⌝ }
     ensures { λ r. ⌜ Made ValidCalled (panCall (now (l .entry)) e) r ⌝ }
 {
-    let engine = e.set_voice_pan(byte_at(l, 1) as usize, byte_at(l, 2));
+    let held = e.set_voice_pan(byte_at(l, 1) as usize, byte_at(l, 2));
     Called {
         reply: Reply::Nothing,
-        engine,
+        held,
     }
 }
 
-fn gain_call(l: &[u8], e: AudioEngine) -> Called
-    requires { ⌜ ValidEngine e ⌝ }
+fn gain_call(l: &[u8], e: OpenBox) -> Called
+    requires { ⌜ ValidBox e ⌝ }
     ensures { λ r. ⌜ Made ValidCalled (gainCall (now (l .entry)) e) r ⌝ }
 {
-    let engine = e.set_master_gain_q8(byte_at(l, 1));
+    let held = e.set_master_gain_q8(byte_at(l, 1));
     Called {
         reply: Reply::Nothing,
-        engine,
+        held,
     }
 }
 
-fn stop_call(e: AudioEngine) -> Called
-    requires { ⌜ ValidEngine e ⌝ }
+fn stop_call(e: OpenBox) -> Called
+    requires { ⌜ ValidBox e ⌝ }
     ensures { λ r. ⌜ Made ValidCalled (stopCall e) r ⌝ }
 {
-    let engine = e.stop_all();
+    let held = e.stop_all();
     Called {
         reply: Reply::Nothing,
-        engine,
+        held,
     }
 }
 
-fn search_call(l: &[u8], bytes: &[u8], e: AudioEngine) -> Called
-    requires { ⌜ ValidEngine e ⌝ }
+fn search_call(l: &[u8], bytes: &[u8], e: OpenBox) -> Called
+    requires { ⌜ ValidBox e ⌝ }
     ensures { λ r. ⌜ Made ValidCalled (searchCall (now (l .entry)) (now (bytes .entry)) e) r ⌝ }
 {
     let found = e.find_by_id(bytes, wide_at(l, 1));
     Called {
         reply: entry_reply(found),
-        engine: e,
+        held: e,
     }
 }
 
-fn allocate_call(l: &[u8], e: AudioEngine) -> Called
-    requires { ⌜ ValidEngine e ⌝ }
+fn allocate_call(l: &[u8], e: OpenBox) -> Called
+    requires { ⌜ ValidBox e ⌝ }
     ensures { λ r. ⌜ Made ValidCalled (allocateCall (now (l .entry)) e) r ⌝ }
 {
     let a = e.allocate_voice(byte_at(l, 1));
     Called {
         reply: allocated_reply(a),
-        engine: e,
+        held: e,
     }
 }
 
-fn audible_call(e: AudioEngine) -> Called
-    requires { ⌜ ValidEngine e ⌝ }
+fn audible_call(e: OpenBox) -> Called
+    requires { ⌜ ValidBox e ⌝ }
     ensures { λ r. ⌜ Made ValidCalled (audibleCall e) r ⌝ }
 {
     let playing = flag_number(e.is_playing());
     let count = e.active_voice_count() as u64;
     Called {
         reply: Reply::Two(playing, count),
-        engine: e,
+        held: e,
     }
 }
 
-fn stereo_call(e: AudioEngine) -> Called
-    requires { ⌜ ValidEngine e ⌝ }
+fn stereo_call(e: OpenBox) -> Called
+    requires { ⌜ ValidBox e ⌝ }
     ensures { λ r. ⌜ Made ValidCalled (stereoCall e) r ⌝ }
 {
     let f = e.tick_stereo_pcm();
-    let engine = f.engine;
+    let held = f.held;
     let left = as_u8(f.left) as u64;
     let right = as_u8(f.right) as u64;
     Called {
         reply: Reply::Two(left, right),
-        engine,
+        held,
     }
 }
 
-fn duty_call(e: AudioEngine) -> Called
-    requires { ⌜ ValidEngine e ⌝ }
+fn duty_call(e: OpenBox) -> Called
+    requires { ⌜ ValidBox e ⌝ }
     ensures { λ r. ⌜ Made ValidCalled (dutyCall e) r ⌝ }
 {
     let f = e.tick();
-    let engine = f.engine;
+    let held = f.held;
     Called {
         reply: Reply::Wide(f.duty as u64),
-        engine,
+        held,
     }
 }
 
-fn plain_play_call(l: &[u8], bytes: &[u8], e: AudioEngine) -> Called
-    requires { ⌜ ValidEngine e ⌝ }
+fn plain_play_call(l: &[u8], bytes: &[u8], e: OpenBox) -> Called
+    requires { ⌜ ValidBox e ⌝ }
     ensures { λ r. ⌜ Made ValidCalled (plainPlayCall (now (l .entry)) (now (bytes .entry)) e) r ⌝ }
 {
     let adsr = spec_at(l, 3);
     let p = e.play(bytes, wide_at(l, 1), adsr);
     let outcome = p.outcome;
-    let engine = p.engine;
+    let held = p.held;
     Called {
         reply: play_reply(outcome),
-        engine,
+        held,
     }
 }
 
@@ -306,69 +306,69 @@ fn pan_reply(p: PanRead) -> Reply
     }
 }
 
-fn pan_read_call(l: &[u8], e: AudioEngine) -> Called
-    requires { ⌜ ValidEngine e ⌝ }
+fn pan_read_call(l: &[u8], e: OpenBox) -> Called
+    requires { ⌜ ValidBox e ⌝ }
     ensures { λ r. ⌜ Made ValidCalled (panReadCall (now (l .entry)) e) r ⌝ }
 {
     let p = e.voice_pan(byte_at(l, 1) as usize);
     Called {
         reply: pan_reply(p),
-        engine: e,
+        held: e,
     }
 }
 
-fn sample_call(e: AudioEngine) -> Called
-    requires { ⌜ ValidEngine e ⌝ }
+fn sample_call(e: OpenBox) -> Called
+    requires { ⌜ ValidBox e ⌝ }
     ensures { λ r. ⌜ Made ValidCalled (sampleCall e) r ⌝ }
 {
     let f = e.tick_pcm();
-    let engine = f.engine;
+    let held = f.held;
     Called {
         reply: Reply::Number(as_u8(f.pcm) as u64),
-        engine,
+        held,
     }
 }
 
-fn pwm_call(e: AudioEngine) -> Called
-    requires { ⌜ ValidEngine e ⌝ }
+fn pwm_call(e: OpenBox) -> Called
+    requires { ⌜ ValidBox e ⌝ }
     ensures { λ r. ⌜ Made ValidCalled (dutyCall e) r ⌝ }
 {
     let f = e.tick_pwm();
-    let engine = f.engine;
+    let held = f.held;
     Called {
         reply: Reply::Wide(f.duty as u64),
-        engine,
+        held,
     }
 }
 
-fn wide_stereo_call(e: AudioEngine) -> Called
-    requires { ⌜ ValidEngine e ⌝ }
+fn wide_stereo_call(e: OpenBox) -> Called
+    requires { ⌜ ValidBox e ⌝ }
     ensures { λ r. ⌜ Made ValidCalled (wideStereoCall e) r ⌝ }
 {
     let f = e.tick_stereo_i16();
-    let engine = f.engine;
+    let held = f.held;
     let left = unsigned16(f.left) as u64;
     let right = unsigned16(f.right) as u64;
     Called {
         reply: Reply::WideTwo(left, right),
-        engine,
+        held,
     }
 }
 
-fn fade_left_call(e: AudioEngine) -> Called
-    requires { ⌜ ValidEngine e ⌝ }
+fn fade_left_call(e: OpenBox) -> Called
+    requires { ⌜ ValidBox e ⌝ }
     ensures { λ r. ⌜ Made ValidCalled (fadeLeftCall e) r ⌝ }
 {
     let left = e.fade_frames_left() as u64;
     Called {
         reply: Reply::Number(left),
-        engine: e,
+        held: e,
     }
 }
 
 // The records from 62 on.
-fn later_call(code: u8, l: &[u8], bytes: &[u8], e: AudioEngine) -> Called
-    requires { ⌜ ValidEngine e ⌝ }
+fn later_call(code: u8, l: &[u8], bytes: &[u8], e: OpenBox) -> Called
+    requires { ⌜ ValidBox e ⌝ }
     ensures { λ r. ⌜ Made ValidCalled (laterCall code (now (l .entry)) (now (bytes .entry)) e) r ⌝ }
 {
     match code {
@@ -376,29 +376,29 @@ fn later_call(code: u8, l: &[u8], bytes: &[u8], e: AudioEngine) -> Called
         0x63 => pan_read_call(l, e),
         0x64 => Called {
             reply: Reply::Policy,
-            engine: e,
+            held: e,
         },
         0x65 => Called {
             reply: Reply::Configuration,
-            engine: e,
+            held: e,
         },
         0x66 => sample_call(e),
         0x67 => pwm_call(e),
         0x68 => wide_stereo_call(e),
         0x69 => Called {
             reply: Reply::Voice(byte_at(l, 1)),
-            engine: e,
+            held: e,
         },
         0x79 => fade_left_call(e),
         _ => Called {
             reply: Reply::Bad,
-            engine: e,
+            held: e,
         },
     }
 }
 
-fn call_for(code: u8, l: &[u8], bytes: &[u8], e: AudioEngine) -> Called
-    requires { ⌜ ValidEngine e ⌝ }
+fn call_for(code: u8, l: &[u8], bytes: &[u8], e: OpenBox) -> Called
+    requires { ⌜ ValidBox e ⌝ }
     ensures { λ r. ⌜ Made ValidCalled (callFor code (now (l .entry)) (now (bytes .entry)) e) r ⌝ }
 {
     match code {
@@ -413,7 +413,7 @@ fn call_for(code: u8, l: &[u8], bytes: &[u8], e: AudioEngine) -> Called
         0x1a => search_call(l, bytes, e),
         0x1b => Called {
             reply: Reply::Payload,
-            engine: e,
+            held: e,
         },
         0x1c => allocate_call(l, e),
         0x1d => audible_call(e),
@@ -421,15 +421,15 @@ fn call_for(code: u8, l: &[u8], bytes: &[u8], e: AudioEngine) -> Called
         0x2c => duty_call(e),
         0x30 => Called {
             reply: Reply::Dump,
-            engine: e,
+            held: e,
         },
         _ => later_call(code, l, bytes, e),
     }
 }
 
-// A line of one of these records over an open engine and the bytes lent.
-pub fn call(l: &[u8], bytes: &[u8], e: AudioEngine) -> Called
-    requires { ⌜ ValidEngine e ⌝ }
+// A line of one of these records over an open box and the bytes lent.
+pub fn call(l: &[u8], bytes: &[u8], e: OpenBox) -> Called
+    requires { ⌜ ValidBox e ⌝ }
     ensures { λ r. ⌜ Made ValidCalled (called (now (l .entry)) (now (bytes .entry)) e) r ⌝ }
 {
     let code = byte_at(l, 0);
@@ -438,7 +438,7 @@ pub fn call(l: &[u8], bytes: &[u8], e: AudioEngine) -> Called
     } else {
         Called {
             reply: Reply::Bad,
-            engine: e,
+            held: e,
         }
     }
 }

@@ -6,18 +6,20 @@ use native.Mathlib.Nat.{mul-le-mul-right}
 use native.Mathlib.Omega.{arith}
 use lib.ListN.{length, take, drop, replicate, length-replicate, length-append}
 use lib.Seq.{take-append-seam}
-use Rattle.mixer.specs.declared.Mixer.{Mixer}
 use lib.IntN.{ℤ}
-use Rattle.buffers.specs.Buffers.{Fills, FillsAll}
-use Rattle.buffers.specs.Shapes.{frameStep, rawOf, framesIn, cellsIn, FillsBy}
+use Rattle.buffers.specs.Buffers.{FillsIn}
+use Rattle.buffers.specs.Shapes.{shapeStep, shapeRaw, framesIn, cellsIn, levelNext, levelCell}
+use Rattle.buffers.specs.declared.Level.{Level}
 use Rattle.buffers.specs.declared.Shape.{Shape}
-use Rattle.engine.specs.Engines.{boxed}
-use Rattle.engine.specs.Fills.{filledIn}
-use Rattle.engine.specs.declared.fills.EngineFilled.{EngineFilled}
 use Rattle.hex.specs.Hex.{Laid}
-use Rattle.replay_cells.specs.Cells.{numberedText}
+use Rattle.replay_box.specs.Boxes.{ValidBox}
+use Rattle.replay_box.specs.Frames.{frames, doneIn, Fills, Levels}
+use Rattle.replay_box.specs.declared.OpenBox.{OpenBox}
+use Rattle.replay_box.specs.declared.fills.BoxFilled.{BoxFilled}
+use Rattle.hex.proofs.Texts.{length-hexOf}
+use Rattle.replay_cells.specs.Cells.{wideText, numberedText}
 use Rattle.replay_cells.proofs.Turns.{numbered-all}
-use Rattle.replay_fills.specs.Fills.{filledBy, singly, shapedFill, Shows}
+use Rattle.replay_fills.specs.Fills.{blankU16, filledBy, shapedFill, levelFill, Shows}
 
 module _ {A : Type 0} where
   -- the first n of blank cells are lent
@@ -57,33 +59,32 @@ module _ {A : Type 0} where
 -- its cells of w digits each
 module _ {A : Type 0} (text : A → List ℕ) (w : ℕ) (sized : (x : A) → length (text x) ≡ w) (small : w ≤ 8) where
   -- what the call wrote, and the cells after it as they were
-  shown : (step : Mixer → Mixer) (gives : Mixer → List A) (frames written : ℕ) {blank : A} {n : ℕ} {m : Mixer} {r : EngineFilled} {cells part : List A} {before after : List ℕ} {len : ℕ}
+  shown : (step : OpenBox → OpenBox) (gives : OpenBox → List A) (count written : ℕ) {blank : A} {n : ℕ} {b : OpenBox} {r : BoxFilled} {cells part : List A} {before after : List ℕ} {len : ℕ}
       → Back blank n cells part
-      → Fills step gives frames written m (take n cells) (filledIn r) part
+      → FillsIn ValidBox step gives count written b (take n cells) (doneIn r) part
       → Laid before 0 (numberedText 4 (r .filled) text (take n (part ++ drop n cells))) after len
-      → Shows (filledBy text blank step gives frames written n m) before after (record { len = len; engine = r .engine })
+      → Shows (filledBy text blank step gives count written n b) before after (record { len = len; held = r .held })
   unfolding filledBy
-  shown step gives frames written {n = n} {r = r} {cells = cells} {part = part} b f t =
+  shown step gives count written {n = n} {r = r} {cells = cells} {part = part} b f t =
       let less = mul-le-mul-right n small in
       let room : 4 + w * length (take n (part ++ drop n cells)) < 262144 = rw (back-length b) (omega (arith, b .lent .fits, less)) in
       let all = numbered-all text 4 (r .filled) w sized (take n (part ++ drop n cells)) room t in
-      record {
-        laid = rw (f .count, back-same b, f .content, lent-blank (b .lent)) at all;
-        engine = record { same = ap boxed (f .state .same); valid = record { inside = f .state .valid } };
-      }
-
-  pub singly-shown : (step : Mixer → Mixer) (gives : Mixer → List A) {blank : A} {n : ℕ} {m : Mixer} {r : EngineFilled} {cells part : List A} {before after : List ℕ} {len : ℕ}
-      → Back blank n cells part
-      → FillsAll step gives m (take n cells) (filledIn r) part
-      → Laid before 0 (numberedText 4 (r .filled) text (take n (part ++ drop n cells))) after len
-      → Shows (singly text blank step gives n m) before after (record { len = len; engine = r .engine })
-  singly-shown step gives {n = n} b f t = shown step gives n n b (rw (lent-length (b .lent)) at f) t
+      record { laid = rw (f .count, back-same b, f .content, lent-blank (b .lent)) at all; held = f .state }
 
   -- by shape
-  pub shaped-shown : (scale : ℤ → A) (shape : Shape) {blank : A} {n : ℕ} {m : Mixer} {r : EngineFilled} {cells part : List A} {before after : List ℕ} {len : ℕ}
+  pub shaped-shown : (scale : ℤ → A) (shape : Shape) {blank : A} {n : ℕ} {b : OpenBox} {r : BoxFilled} {cells part : List A} {before after : List ℕ} {len : ℕ}
       → Back blank n cells part
-      → FillsBy scale shape m (take n cells) (filledIn r) part
+      → Fills scale shape b (take n cells) r part
       → Laid before 0 (numberedText 4 (r .filled) text (take n (part ++ drop n cells))) after len
-      → Shows (shapedFill text blank scale shape n m) before after (record { len = len; engine = r .engine })
+      → Shows (shapedFill text blank scale shape n b) before after (record { len = len; held = r .held })
   shaped-shown scale shape {n = n} b f t =
-      shown (frameStep shape) (λ m. map scale (rawOf shape m)) (framesIn shape n) (cellsIn shape n) b (rw (lent-length (b .lent)) at f) t
+      shown (shapeStep frames shape) (λ b. map scale (shapeRaw frames shape b)) (framesIn shape n) (cellsIn shape n) b (rw (lent-length (b .lent)) at f) t
+
+-- by level
+pub level-shown : (level : Level) {n : ℕ} {b : OpenBox} {r : BoxFilled} {cells part before after : List ℕ} {len : ℕ}
+    → Back blankU16 n cells part
+    → Levels level b (take n cells) r part
+    → Laid before 0 (numberedText 4 (r .filled) wideText (take n (part ++ drop n cells))) after len
+    → Shows (levelFill level n b) before after (record { len = len; held = r .held })
+level-shown level {n = n} b f t =
+    shown wideText 4 (λ x. length-hexOf 4 x) (omega arith) (levelNext frames level) (levelCell frames level) n n b (rw (lent-length (b .lent)) at f) t

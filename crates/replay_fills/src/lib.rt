@@ -2,24 +2,24 @@
 ghost use mathlib.Core.Path.{_≡_};
 ghost use Prim.Native.Nat.{_≤_, min};
 ghost use lib.ListN.{replicate};
-ghost use Rattle.engine.specs.Engines.{ValidEngine};
+ghost use Rattle.replay_box.specs.Boxes.{ValidBox};
 ghost use Rattle.output.specs.Levels.{raised};
 ghost use Rattle.buffers.specs.Buffers.{toI8, toI16, toI32};
 ghost use Rattle.replay_cells.specs.Cells.{byteText, i8Text, i16Text, i32Text};
 ghost use Rattle.replay_fills.specs.Fills.{blankU8, blankU16, blankI8, blankI16, blankI32, shapedFill, levelFill, fillFor, Shows};
 use buffers::Level;
 use buffers::Shape;
-use engine::AudioEngine;
+use replay_box::OpenBox;
 use replay_cells::put_i8s;
 use replay_cells::put_i16s;
 use replay_cells::put_i32s;
 use replay_cells::put_u8s;
 use replay_cells::put_u16s;
 
-// How long the answer is, and the engine after the fill.
+// How long the answer is, and the box after the fill.
 pub struct Shown {
     pub len: usize,
-    pub engine: AudioEngine,
+    pub held: OpenBox,
 }
 
 // Buffers with A5 in every byte.
@@ -53,71 +53,71 @@ fn blank_i32s() -> [i32; 2048]
     [-1515870811i32; 2048]
 }
 
-fn i8s(e: AudioEngine, shape: Shape, n: usize, out: &mut [u8; 262144]) -> Shown
-    requires { ⌜ ValidEngine e ⌝ }
+fn i8s(e: OpenBox, shape: Shape, n: usize, out: &mut [u8; 262144]) -> Shown
+    requires { ⌜ ValidBox e ⌝ }
     requires { ⌜ n ≤ 2048 ⌝ }
-    ensures { λ r. ⌜ Shows (shapedFill i8Text blankI8 toI8 shape n (e .state)) (now (out .entry)) (now (out .exit)) r ⌝ }
+    ensures { λ r. ⌜ Shows (shapedFill i8Text blankI8 toI8 shape n e) (now (out .entry)) (now (out .exit)) r ⌝ }
 {
     let mut cells = blank_i8s();
     let f = e.fill_i8(shape, &mut cells[..n]);
-    let engine = f.engine;
+    let held = f.held;
     let len = put_i8s(out, f.filled as u64, 4, &cells[..n]);
-    Shown { len, engine }
+    Shown { len, held }
 }
 
-fn i16s(e: AudioEngine, shape: Shape, n: usize, out: &mut [u8; 262144]) -> Shown
-    requires { ⌜ ValidEngine e ⌝ }
+fn i16s(e: OpenBox, shape: Shape, n: usize, out: &mut [u8; 262144]) -> Shown
+    requires { ⌜ ValidBox e ⌝ }
     requires { ⌜ n ≤ 2048 ⌝ }
-    ensures { λ r. ⌜ Shows (shapedFill i16Text blankI16 toI16 shape n (e .state)) (now (out .entry)) (now (out .exit)) r ⌝ }
+    ensures { λ r. ⌜ Shows (shapedFill i16Text blankI16 toI16 shape n e) (now (out .entry)) (now (out .exit)) r ⌝ }
 {
     let mut cells = blank_i16s();
     let f = e.fill_i16(shape, &mut cells[..n]);
-    let engine = f.engine;
+    let held = f.held;
     let len = put_i16s(out, f.filled as u64, 4, &cells[..n]);
-    Shown { len, engine }
+    Shown { len, held }
 }
 
-fn i32s(e: AudioEngine, shape: Shape, n: usize, out: &mut [u8; 262144]) -> Shown
-    requires { ⌜ ValidEngine e ⌝ }
+fn i32s(e: OpenBox, shape: Shape, n: usize, out: &mut [u8; 262144]) -> Shown
+    requires { ⌜ ValidBox e ⌝ }
     requires { ⌜ n ≤ 2048 ⌝ }
-    ensures { λ r. ⌜ Shows (shapedFill i32Text blankI32 toI32 shape n (e .state)) (now (out .entry)) (now (out .exit)) r ⌝ }
+    ensures { λ r. ⌜ Shows (shapedFill i32Text blankI32 toI32 shape n e) (now (out .entry)) (now (out .exit)) r ⌝ }
 {
     let mut cells = blank_i32s();
     let f = e.fill_i32(shape, &mut cells[..n]);
-    let engine = f.engine;
+    let held = f.held;
     let len = put_i32s(out, f.filled as u64, 4, &cells[..n]);
-    Shown { len, engine }
+    Shown { len, held }
 }
 
-fn u8s(e: AudioEngine, shape: Shape, n: usize, out: &mut [u8; 262144]) -> Shown
-    requires { ⌜ ValidEngine e ⌝ }
+fn u8s(e: OpenBox, shape: Shape, n: usize, out: &mut [u8; 262144]) -> Shown
+    requires { ⌜ ValidBox e ⌝ }
     requires { ⌜ n ≤ 2048 ⌝ }
-    ensures { λ r. ⌜ Shows (shapedFill byteText blankU8 raised shape n (e .state)) (now (out .entry)) (now (out .exit)) r ⌝ }
+    ensures { λ r. ⌜ Shows (shapedFill byteText blankU8 raised shape n e) (now (out .entry)) (now (out .exit)) r ⌝ }
 {
     let mut cells = blank_u8s();
     let f = e.fill_u8(shape, &mut cells[..n]);
-    let engine = f.engine;
+    let held = f.held;
     let len = put_u8s(out, f.filled as u64, 4, &cells[..n]);
-    Shown { len, engine }
+    Shown { len, held }
 }
 
-fn u16s(e: AudioEngine, level: Level, n: usize, out: &mut [u8; 262144]) -> Shown
-    requires { ⌜ ValidEngine e ⌝ }
+fn u16s(e: OpenBox, level: Level, n: usize, out: &mut [u8; 262144]) -> Shown
+    requires { ⌜ ValidBox e ⌝ }
     requires { ⌜ n ≤ 2048 ⌝ }
-    ensures { λ r. ⌜ Shows (levelFill level n (e .state)) (now (out .entry)) (now (out .exit)) r ⌝ }
+    ensures { λ r. ⌜ Shows (levelFill level n e) (now (out .entry)) (now (out .exit)) r ⌝ }
 {
     let mut cells = blank_u16s();
     let f = e.fill_u16(level, &mut cells[..n]);
-    let engine = f.engine;
+    let held = f.held;
     let len = put_u16s(out, f.filled as u64, 4, &cells[..n]);
-    Shown { len, engine }
+    Shown { len, held }
 }
 
 // By the code of the record, one of 20 to 2A.
-fn fill_few(code: u8, e: AudioEngine, n: usize, out: &mut [u8; 262144]) -> Shown
-    requires { ⌜ ValidEngine e ⌝ }
+fn fill_few(code: u8, e: OpenBox, n: usize, out: &mut [u8; 262144]) -> Shown
+    requires { ⌜ ValidBox e ⌝ }
     requires { ⌜ n ≤ 2048 ⌝ }
-    ensures { λ r. ⌜ Shows (fillFor code n (e .state)) (now (out .entry)) (now (out .exit)) r ⌝ }
+    ensures { λ r. ⌜ Shows (fillFor code n e) (now (out .entry)) (now (out .exit)) r ⌝ }
 {
     match code {
         0x20 => u16s(e, Level::Duty, n, out),
@@ -141,9 +141,9 @@ fn at_most_2048(n: usize) -> usize
 }
 
 // No record asks for more than 2,048 cells; of a larger number, so many are filled.
-pub fn fill(code: u8, e: AudioEngine, n: usize, out: &mut [u8; 262144]) -> Shown
-    requires { ⌜ ValidEngine e ⌝ }
-    ensures { λ r. ⌜ Shows (fillFor code (min n 2048) (e .state)) (now (out .entry)) (now (out .exit)) r ⌝ }
+pub fn fill(code: u8, e: OpenBox, n: usize, out: &mut [u8; 262144]) -> Shown
+    requires { ⌜ ValidBox e ⌝ }
+    ensures { λ r. ⌜ Shows (fillFor code (min n 2048) e) (now (out .entry)) (now (out .exit)) r ⌝ }
 {
     fill_few(code, e, at_most_2048(n), out)
 }

@@ -1,6 +1,6 @@
 -- The records of the replay format: for each its fields, from byte 1 on, and what it prints. Assumes nothing.
 use Prim.Native.Nat.{ℕ, _+_, _*_, _/_, _%_, _^_}
-use mathlib.Core.Bool.{cond, _&&_}
+use mathlib.Core.Bool.{Bool, true, false, cond, _&&_}
 use mathlib.Core.List.{List}
 use lib.Dec.{leb, ltb, eqb}
 use lib.ListN.{length}
@@ -10,7 +10,7 @@ use mir.Syntax.{w8, w16, w32}
 use mir.Val.{toZ, ofZ}
 use Rattle.laws.specs.Whole.{neg, heldTo}
 use Rattle.error.specs.Told.{Told, value, refused, andThen}
-use Rattle.fixed.specs.Fixed.{increment, indexOf, fractionOf, sine, toward, gained, panGains}
+use Rattle.fixed.specs.Fixed.{increment, indexOf, fractionOf, sine, toward, gainedBy, panGains}
 use Rattle.fixed.specs.Decibels.{gainOfDb, dbOfGain}
 use Rattle.output.specs.Levels.{limitedBus, raised}
 use Rattle.output.specs.Duty.{duty, periodRead}
@@ -37,9 +37,9 @@ abbrev pub numbered : ℕ → Told ℕ → Reply
 numbered digits (value n) = Word n (2 + digits)
 numbered digits (refused n) = Word (n * 16 ^ digits) (2 + digits)
 
--- 40, gain: "sample i8 (1), gain (1) | 2 digits"
-unfoldable pub gainReply : List ℕ → Reply
-gainReply l = Word (ofZ w8 (gained (sampleAt l 1) (byteAt l 2))) 2
+-- 40, gain: "sample i8 (1), gain (1) | 2 digits"; 82, "gain, present rule | as 40"
+unfoldable pub gainReply : Bool → List ℕ → Reply
+gainReply present l = Word (ofZ w8 (gainedBy present (sampleAt l 1) (byteAt l 2))) 2
 
 -- 41, lerp: "a i8 (1), b i8 (1), fraction (1) | 2 digits"
 unfoldable pub lerpReply : List ℕ → Reply
@@ -169,7 +169,7 @@ bankReply l =
 abbrev pub replyFor : ℕ → List ℕ → Reply
 replyFor code l =
     let n = length l in
-    cond (eqb code 0x40) (sized n 2 (gainReply l))
+    cond (eqb code 0x40) (sized n 2 (gainReply false l))
     (cond (eqb code 0x41) (sized n 3 (lerpReply l))
     (cond (eqb code 0x42) (sized n 4 (limiterReply l))
     (cond (eqb code 0x43) (sized n 1 (panReply l))
@@ -193,10 +193,11 @@ replyFor code l =
     (cond (eqb code 0x6A) (sized n 11 (restoredReply l))
     (cond (eqb code 0x80) (sized n 10 (patternReply l))
     (cond (eqb code 0x81) (recordingReply l)
+    (cond (eqb code 0x82) (sized n 2 (gainReply true l))
     (cond (eqb code 0x83) (bankReply l)
     (cond (eqb code 0x84) (sized n 6 (lengthReply l))
     (cond (eqb code 0x85) (sized n 10 (carryingReply l))
-    Bad))))))))))))))))))))))))))
+    Bad)))))))))))))))))))))))))))
 
 -- "No good line is longer than 8,194 digits"; the first byte is the code
 unfoldable pub replyOf : List ℕ → Reply

@@ -8,11 +8,12 @@ use hex::signed32;
 use tier::EffectKind;
 use tier::KindRead;
 
-pub(crate) fn gain(l: &[u8]) -> Reply
-    ensures { λ r. ⌜ r ≡ gainReply (now (l .entry)) ⌝ }
+// By document 01's rule, or by the present one.
+pub(crate) fn gain(l: &[u8], present: bool) -> Reply
+    ensures { λ r. ⌜ r ≡ gainReply present (now (l .entry)) ⌝ }
 {
     let sample = fixed::as_i8(byte_at(l, 1));
-    let value = fixed::as_u8(fixed::apply_gain_q8(sample, byte_at(l, 2)));
+    let value = fixed::as_u8(fixed::apply_gain_by(sample, byte_at(l, 2), present));
     Reply::Word {
         value: value as u64,
         digits: 2,

@@ -112,7 +112,7 @@ fn reply_for(code: u8, l: &[u8]) -> Reply
 {
     let n = l.len();
     match code {
-        0x40 => sized(n, 2, leaves::gain(l)),
+        0x40 => sized(n, 2, leaves::gain(l, false)),
         0x41 => sized(n, 3, leaves::lerp(l)),
         0x42 => sized(n, 4, outputs::limiter(l)),
         0x43 => sized(n, 1, leaves::pan_gains(l)),
@@ -136,6 +136,7 @@ fn reply_for(code: u8, l: &[u8]) -> Reply
         0x6A => sized(n, 11, sounds::restored_reply(l)),
         0x80 => sized(n, 10, pattern_reply(l)),
         0x81 => recording_reply(l),
+        0x82 => sized(n, 2, leaves::gain(l, true)),
         0x83 => bank_reply(l),
         0x84 => sized(n, 6, outputs::length(l)),
         0x85 => sized(n, 10, outputs::carrying(l)),

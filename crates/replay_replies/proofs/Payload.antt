@@ -32,7 +32,7 @@ pub payload-laid : (bank : BankSet) (l bytes : List ℕ) {part before after : Li
 unfolding payloadText
 payload-laid bank l bytes o k r n p w = rw (← o, ← k) (rw (n, r, p) at w)
 
--- a voice that is read is one of the engine's
+-- a voice that is read is one of the box's
 pub read-valid : (m : Mixer) (i : ℕ) {v : Voice} → Valid m → voiceRead m i ≡ I.Voice v → S.Valid v
 unfolding voiceRead
 read-valid m i {v} h e = by (ltb i (m .n)) refl e

@@ -2,20 +2,20 @@
 ghost use mathlib.Core.Path.{_≡_};
 ghost use Rattle.bank.specs.Banks.{toldPayload};
 ghost use Rattle.error.specs.Told.{numberIn};
-ghost use Rattle.engine.specs.Engines.{ValidEngine};
 ghost use Rattle.mixer.specs.Mixers.{voiceRead};
 ghost use Rattle.hex.specs.Hex.{Wrote};
+ghost use Rattle.replay_box.specs.Boxes.{ValidBox, mixerOf};
 ghost use Rattle.replay_replies.specs.Texts.{entryText, payloadText, twoText, wideTwoText, configText, voiceText, replyText};
 use bank::EffectEntry;
 use bank::PayloadRead;
 use config::AudioConfig;
-use engine::AudioEngine;
 use hex::end_line;
 use hex::long_at;
 use hex::put;
 use hex::put_line;
 use hex::wide_at;
 use mixer::VoiceRead;
+use replay_box::OpenBox;
 use replay_calls::Reply;
 use replay_cells::put_u8s;
 use replay_dump::mode_number;
@@ -50,9 +50,9 @@ fn put_config(out: &mut [u8; 262144], c: AudioConfig) -> usize
     end_line(out, n4)
 }
 
-fn put_voice_at(out: &mut [u8; 262144], e: AudioEngine, i: u8) -> usize
-    requires { ⌜ ValidEngine e ⌝ }
-    ensures { λ r. ⌜ Wrote (now (out .entry)) 0 (voiceText (voiceRead (e .state) i)) (now (out .exit)) r ⌝ }
+fn put_voice_at(out: &mut [u8; 262144], e: OpenBox, i: u8) -> usize
+    requires { ⌜ ValidBox e ⌝ }
+    ensures { λ r. ⌜ Wrote (now (out .entry)) 0 (voiceText (voiceRead (mixerOf e) i)) (now (out .exit)) r ⌝ }
 {
     let read = e.voice(i as usize);
     match read {
@@ -89,8 +89,8 @@ fn payload_number(p: PayloadRead) -> u64
 }
 
 // A part of the bank is of at most 65,535 bytes, since its length has two.
-fn put_payload(l: &[u8], bytes: &[u8], e: AudioEngine, out: &mut [u8; 262144]) -> usize
-    ensures { λ r. ⌜ Wrote (now (out .entry)) 0 (payloadText (e .state .bank) (now (l .entry)) (now (bytes .entry))) (now (out .exit)) r ⌝ }
+fn put_payload(l: &[u8], bytes: &[u8], e: OpenBox, out: &mut [u8; 262144]) -> usize
+    ensures { λ r. ⌜ Wrote (now (out .entry)) 0 (payloadText (mixerOf e .bank) (now (l .entry)) (now (bytes .entry))) (now (out .exit)) r ⌝ }
 {
     let offset = long_at(l, 1);
     let len = wide_at(l, 5) as u32;
@@ -100,15 +100,9 @@ fn put_payload(l: &[u8], bytes: &[u8], e: AudioEngine, out: &mut [u8; 262144]) -
     put_u8s(out, number, 2, part)
 }
 
-pub fn put_reply(
-    reply: Reply,
-    l: &[u8],
-    bytes: &[u8],
-    e: AudioEngine,
-    out: &mut [u8; 262144],
-) -> usize
-    requires { ⌜ ValidEngine e ⌝ }
-    ensures { λ r. ⌜ Wrote (now (out .entry)) 0 (replyText reply (now (l .entry)) (now (bytes .entry)) (e .state)) (now (out .exit)) r ⌝ }
+pub fn put_reply(reply: Reply, l: &[u8], bytes: &[u8], e: OpenBox, out: &mut [u8; 262144]) -> usize
+    requires { ⌜ ValidBox e ⌝ }
+    ensures { λ r. ⌜ Wrote (now (out .entry)) 0 (replyText reply (now (l .entry)) (now (bytes .entry)) (mixerOf e)) (now (out .exit)) r ⌝ }
 {
     match reply {
         Reply::Bad => put_line(out, 0xffff, 4),

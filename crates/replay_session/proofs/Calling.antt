@@ -1,4 +1,4 @@
--- What a record of an open engine makes of a run. Assumes nothing.
+-- What a record of an open box makes of a run. Assumes nothing.
 use mathlib.Core.Path.{_≡_, refl, ap}
 use mathlib.Core.Bool.{Bool, true, false, _&&_}
 use mathlib.Core.List.{List}
@@ -8,7 +8,7 @@ use lib.ListN.{length}
 use borrow.Author.Tests.{leb-true}
 use Rattle.laws.proofs.Bools.{never}
 use Rattle.hex.specs.Hex.{byteAt, wideAt}
-use Rattle.engine.specs.declared.AudioEngine.{AudioEngine}
+use Rattle.replay_box.specs.declared.OpenBox.{OpenBox}
 use Rattle.replay_fills.specs.Fills.{Fill, fillFor, Shows}
 use Rattle.replay_fills.specs.declared.Shown.{Shown}
 use Rattle.replay_calls.specs.Calls.{called}
@@ -20,13 +20,13 @@ pub not-open : (s : Session) (bytes l : List ℕ) → s .«is_open» ≡ false �
 unfolding callAnswer
 not-open s bytes l e = rw e
 
-pub calls-as : (s : Session) (bytes l : List ℕ) {c : Called} → s .«is_open» ≡ true → c ≡ called l bytes (s .engine) → callAnswer s bytes l ≡ calledAnswer s bytes l c
+pub calls-as : (s : Session) (bytes l : List ℕ) {c : Called} → s .«is_open» ≡ true → c ≡ called l bytes (s .held) → callAnswer s bytes l ≡ calledAnswer s bytes l c
 unfolding callAnswer
 calls-as s bytes l o k = rw (o, k)
 
 -- and one that fills a buffer
-abbrev run : Session → AudioEngine → Session
-run s e = record { «is_open» = s .«is_open»; lent = s .lent; engine = e }
+abbrev run : Session → OpenBox → Session
+run s b = record { «is_open» = s .«is_open»; lent = s .lent; held = b }
 
 pub fill-shut : (s : Session) (l : List ℕ) → s .«is_open» ≡ false → fillAnswer s l ≡ badLine s
 unfolding fillAnswer
@@ -36,7 +36,7 @@ pub fill-bad : (s : Session) (l : List ℕ) → s .«is_open» ≡ true → fill
 unfolding fillAnswer
 fill-bad s l o e = rw (o, e)
 
-pub fills-as : (s : Session) (l : List ℕ) {code n : ℕ} → s .«is_open» ≡ true → fillAllowed l ≡ true → code ≡ byteAt l 0 → n ≡ wideAt l 1 → fillAnswer s l ≡ filledAnswer s (fillFor code n (s .engine .state))
+pub fills-as : (s : Session) (l : List ℕ) {code n : ℕ} → s .«is_open» ≡ true → fillAllowed l ≡ true → code ≡ byteAt l 0 → n ≡ wideAt l 1 → fillAnswer s l ≡ filledAnswer s (fillFor code n (s .held))
 unfolding fillAnswer
 fills-as s l o e c k = rw (o, e, c, k)
 
@@ -47,6 +47,6 @@ both-right false b e = never e
 pub few-cells : (l : List ℕ) → fillAllowed l ≡ true → wideAt l 1 ≤ 2048
 few-cells l e = leb-true (wideAt l 1) 2048 (both-right (eqb (length l) 6) (leb (wideAt l 1) 2048) e)
 
-pub filled-told : (s : Session) {f : Fill} {before after : List ℕ} {r : Shown} → s .lent ≤ 4096 → Shows f before after r → LaidAnswer (filledAnswer s f) before after (record { len = r .len; more = true; session = record { «is_open» = s .«is_open»; lent = s .lent; engine = r .engine } })
+pub filled-told : (s : Session) {f : Fill} {before after : List ℕ} {r : Shown} → s .lent ≤ 4096 → Shows f before after r → LaidAnswer (filledAnswer s f) before after (record { len = r .len; more = true; session = record { «is_open» = s .«is_open»; lent = s .lent; held = r .held } })
 filled-told s h w =
-    record { laid = w .laid; more = refl; session = record { same = ap (run s) (w .engine .same); valid = record { inside = w .engine .valid; short = h } } }
+    record { laid = w .laid; more = refl; session = record { same = ap (run s) (w .held .same); valid = record { inside = w .held .valid; short = h } } }

@@ -1,4 +1,4 @@
--- A run over lines, "drives one engine through its public calls". Assumes nothing.
+-- A run over lines, "drives one engine through its public calls": document 01's box or one of the present rules. Assumes nothing.
 use Prim.Native.Nat.{ℕ, zero, suc, _+_, _-_, _/_, _%_, _≤_}
 use mathlib.Core.Path.{_≡_}
 use mathlib.Core.Bool.{Bool, true, false, cond, _&&_, _||_}
@@ -9,13 +9,13 @@ use Rattle.error.specs.Told as T
 use Rattle.laws.specs.Made.{Made}
 use Rattle.config.specs.declared.AudioConfig.{AudioConfig}
 use Rattle.output.specs.declared.DutyMode.the-variants as D
-use Rattle.mixer.specs.Mixers.{opened, toldOutcome}
+use Rattle.mixer.specs.Mixers.{toldOutcome}
 use Rattle.mixer.specs.declared.VoiceStealingPolicy.{VoiceStealingPolicy}
 use Rattle.mixer.specs.declared.VoiceStealingPolicy.the-variants as P
-use Rattle.engine.specs.Engines.{ValidEngine, boxed, changedBox}
-use Rattle.engine.specs.declared.AudioEngine.{AudioEngine}
 use Rattle.hex.specs.Hex.{allDigits, byteAt, wideAt, longAt, hexOf, newline, Wrote}
 use Rattle.replay_fields.specs.Read.{modeOf}
+use Rattle.replay_box.specs.Boxes.{ValidBox, mixerOf, noBox, opened}
+use Rattle.replay_box.specs.declared.OpenBox.{OpenBox}
 use Rattle.replay_calls.specs.Calls.{sizedAs, called}
 use Rattle.replay_calls.specs.declared.Called.{Called}
 use Rattle.replay_calls.specs.declared.Reply.{Reply}
@@ -29,7 +29,7 @@ use Rattle.replay_session.specs.declared.SessionAnswered.{SessionAnswere
 
 -- at most 4,096 bytes are lent
 pub record ValidSession (s : Session) : Type 0 where
-  pub inside : ValidEngine (s .engine)
+  pub inside : ValidBox (s .held)
   pub short : s .lent ≤ 4096
 
 -- what a line makes of a run: the text that answers it, whether the run goes on, and the run after it
@@ -38,19 +38,19 @@ pub record Answer : Type 0 where
   pub more : Bool
   pub session : Session
 
--- before an engine is open one of no voices stands in its place, which no record asks
+-- before a box is open one of no voices stands in its place, which no record asks
 abbrev pub noConfig : AudioConfig
 noConfig = record { «sample_rate_hz» = 0; «pwm_period» = 2; «duty_mode» = D.Linear; «master_gain_q8» = 0 }
 
 -- "at first nothing is lent"
 unfoldable pub started : Session
-started = record { «is_open» = false; lent = 0; engine = changedBox (opened 0 noConfig P.LowestPriorityOldest) .engine }
+started = record { «is_open» = false; lent = 0; held = noBox noConfig }
 
 -- "prints FFFF and ends the run"
 abbrev pub badLine : Session → Answer
 badLine s = record { text = badText; more = false; session = s }
 
--- 10, open: "N (1), rate (4), period (2), duty mode (1), master gain (1), policy (1) | number"
+-- 10 and 70, open: "N (1), rate (4), period (2), duty mode (1), master gain (1), policy (1) | number"
 abbrev pub policyOf : ℕ → VoiceStealingPolicy
 policyOf n = cond (eqb n 0) P.LowestPriorityOldest P.FreeChannelOnly
 
@@ -67,15 +67,17 @@ configAt l =
 abbrev pub opens : List ℕ → Bool
 opens l = sizedAs 10 l && (leb (byteAt l 8) 2 && leb (byteAt l 10) 1)
 
--- "A second 10 that is accepted replaces the engine; one that is refused leaves the old one. The lent bytes stay over both"
-abbrev pub openedAs : Session → T.Told (Unit {0}) → AudioEngine → Answer
-openedAs s (T.value _) e = record { text = hexOf 2 0 ++ newline; more = true; session = record { «is_open» = true; lent = s .lent; engine = e } }
-openedAs s (T.refused n) e = record { text = hexOf 2 n ++ newline; more = true; session = s }
+-- "A second 10 that is accepted replaces the engine; one that is refused leaves the old one. The lent bytes stay over both". So with either
+-- kind of box.
+abbrev pub openedAs : Session → T.Told (Unit {0}) → OpenBox → Answer
+openedAs s (T.value _) b = record { text = hexOf 2 0 ++ newline; more = true; session = record { «is_open» = true; lent = s .lent; held = b } }
+openedAs s (T.refused n) b = record { text = hexOf 2 n ++ newline; more = true; session = s }
 
-unfoldable pub openAnswer : Session → List ℕ → Answer
-openAnswer s l =
-    let c = changedBox (opened (byteAt l 1) (configAt l) (policyOf (byteAt l 10))) in
-    cond (opens l) (openedAs s (toldOutcome (c .outcome)) (c .engine)) (badLine s)
+-- "10 opens document 01's box, 70 .. one of the present rules, at any time"
+unfoldable pub openAnswer : Bool → Session → List ℕ → Answer
+openAnswer present s l =
+    let c = opened (s .held) present (byteAt l 1) (configAt l) (policyOf (byteAt l 10)) in
+    cond (opens l) (openedAs s (toldOutcome (c .outcome)) (c .held)) (badLine s)
 
 -- n bytes of a line, from byte k on
 unfoldable pub bytesAt : List ℕ → ℕ → ℕ → List ℕ
@@ -89,7 +91,7 @@ lentBytes l = length l / 2 - 1
 unfoldable pub lendAnswer : Session → List ℕ → Answer
 lendAnswer s l =
     cond (eqb (length l % 2) 0)
-    (record { text = []; more = true; session = record { «is_open» = s .«is_open»; lent = lentBytes l; engine = s .engine } })
+    (record { text = []; more = true; session = record { «is_open» = s .«is_open»; lent = lentBytes l; held = s .held } })
     (badLine s)
 
 -- a bad line "ends the run"
@@ -110,14 +112,14 @@ goesOn (R.Voice i) = true
 abbrev pub calledAnswer : Session → List ℕ → List ℕ → Called → Answer
 calledAnswer s bytes l c =
     record {
-      text = replyText (c .reply) l bytes (c .engine .state);
+      text = replyText (c .reply) l bytes (mixerOf (c .held));
       more = goesOn (c .reply);
-      session = record { «is_open» = s .«is_open»; lent = s .lent; engine = c .engine };
+      session = record { «is_open» = s .«is_open»; lent = s .lent; held = c .held };
     }
 
 -- 11, 13 to 1D, 2B, 2C, 30, 62 to 69: "any record but 10 and the 4x ones before an engine is open" is bad
 unfoldable pub callAnswer : Session → List ℕ → List ℕ → Answer
-callAnswer s bytes l = cond (s .«is_open») (calledAnswer s bytes l (called l bytes (s .engine))) (badLine s)
+callAnswer s bytes l = cond (s .«is_open») (calledAnswer s bytes l (called l bytes (s .held))) (badLine s)
 
 -- 20 to 2A: "cells (2) | filled". "At most 2,048 cells in one record."
 abbrev pub fillAllowed : List ℕ → Bool
@@ -128,12 +130,12 @@ filledAnswer s f =
     record {
       text = f .text;
       more = true;
-      session = record { «is_open» = s .«is_open»; lent = s .lent; engine = boxed (f .mixer) };
+      session = record { «is_open» = s .«is_open»; lent = s .lent; held = f .held };
     }
 
 unfoldable pub fillAnswer : Session → List ℕ → Answer
 fillAnswer s l =
-    cond (s .«is_open» && fillAllowed l) (filledAnswer s (fillFor (byteAt l 0) (wideAt l 1) (s .engine .state))) (badLine s)
+    cond (s .«is_open» && fillAllowed l) (filledAnswer s (fillFor (byteAt l 0) (wideAt l 1) (s .held))) (badLine s)
 
 -- the records that need no engine, 40 and up, and the codes of none
 unfoldable pub aloneAnswer : Session → List ℕ → Answer
@@ -149,11 +151,12 @@ isFill code = leb 0x20 code && leb code 0x2A
 
 abbrev pub answerFor : ℕ → Session → List ℕ → List ℕ → Answer
 answerFor code s bytes l =
-    cond (eqb code 0x10) (openAnswer s l)
+    cond (eqb code 0x10) (openAnswer false s l)
+    (cond (eqb code 0x70) (openAnswer true s l)
     (cond (eqb code 0x12) (lendAnswer s l)
     (cond (isCall code) (callAnswer s bytes l)
     (cond (isFill code) (fillAnswer s l)
-    (aloneAnswer s l))))
+    (aloneAnswer s l)))))
 
 -- "No good line is longer than 8,194 digits; a longer one is bad"
 abbrev pub isLine : List ℕ → Bool

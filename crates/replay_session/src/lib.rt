@@ -1,4 +1,4 @@
-// A run over a script's lines: one engine, the bytes lent to it, and what is answered to each line.
+// A run over a script's lines: the box that is open, the bytes lent to it, and what is answered to each line.
 ghost use mathlib.Core.Path.{_≡_};
 ghost use Prim.Native.Nat.{_-_, _/_, _≤_};
 ghost use lib.ListN.{length, take};
@@ -7,7 +7,6 @@ ghost use Rattle.laws.specs.Made.{Made};
 ghost use Rattle.hex.specs.Hex.{byteAt};
 ghost use Rattle.replay_session.specs.Sessions.{bytesAt, ValidSession, LaidAnswer, Answers, started, policyOf, configAt, opens, openAnswer, lendAnswer, lentOver, goesOn, callAnswer, fillAnswer, fillAllowed, aloneAnswer, isCall, isFill, answerFor, sessionAnswer, badLine, cellsFor, cellsAfter};
 use config::AudioConfig;
-use engine::AudioEngine;
 use hex::all_digits;
 use hex::byte_at;
 use hex::long_at;
@@ -16,16 +15,17 @@ use hex::wide_at;
 use mixer::Outcome;
 use mixer::VoiceStealingPolicy;
 use output::DutyMode;
+use replay_box::OpenBox;
 use replay_calls::Reply;
 use replay_fields::mode_of;
 use replay_fills::fill;
 use replay_replies::put_reply;
 
-// Whether an engine is open, how many bytes are lent, and the engine: one of no voices where none is open.
+// Whether a box is open, how many bytes are lent, and the box: one of no voices where none is open.
 pub struct Session {
     is_open: bool,
     lent: usize,
-    engine: AudioEngine,
+    held: OpenBox,
 }
 
 // How many bytes the answer has, whether the run goes on, and the run after the line.
@@ -45,12 +45,10 @@ impl Session {
             duty_mode: DutyMode::Linear,
             master_gain_q8: 0,
         };
-        let c = AudioEngine::open(0, config, VoiceStealingPolicy::LowestPriorityOldest);
-        let engine = c.engine;
         Session {
             is_open: false,
             lent: 0,
-            engine,
+            held: OpenBox::none(config),
         }
     }
 
@@ -60,10 +58,10 @@ impl Session {
         self.is_open
     }
 
-    pub fn engine(self) -> AudioEngine
-        ensures { λ r. ⌜ r ≡ self .engine ⌝ }
+    pub fn held(self) -> OpenBox
+        ensures { λ r. ⌜ r ≡ self .held ⌝ }
     {
-        self.engine
+        self.held
     }
 }
 
@@ -113,23 +111,24 @@ fn opens(l: &[u8]) -> bool
     byte_at(l, 10) <= 1
 }
 
-fn open_answer(l: &[u8], s: Session, out: &mut [u8; 262144]) -> SessionAnswered
+fn open_answer(present: bool, l: &[u8], s: Session, out: &mut [u8; 262144]) -> SessionAnswered
     requires { ⌜ ValidSession s ⌝ }
-    ensures { λ r. ⌜ LaidAnswer (openAnswer s (now (l .entry))) (now (out .entry)) (now (out .exit)) r ⌝ }
+    ensures { λ r. ⌜ LaidAnswer (openAnswer present s (now (l .entry))) (now (out .entry)) (now (out .exit)) r ⌝ }
 {
     if !opens(l) {
         return bad(s, out);
     }
     let config = config_at(l);
     let policy = policy_of(byte_at(l, 10));
-    let c = AudioEngine::open(byte_at(l, 1) as usize, config, policy);
+    let b = s.held;
+    let c = b.opened(present, byte_at(l, 1) as usize, config, policy);
     let outcome = c.outcome;
     match outcome {
         Outcome::Done => {
-            let engine = c.engine;
+            let held = c.held;
             let session = Session {
                 is_open: true,
-                engine,
+                held,
                 ..s
             };
             let len = put_line(out, 0, 2);
@@ -211,7 +210,7 @@ fn goes_on(r: Reply) -> bool
     }
 }
 
-// A record of an open engine; the bytes lent are the first of the cells.
+// A record of an open box; the bytes lent are the first of the cells.
 fn call_answer(l: &[u8], s: Session, cells: &[u8], out: &mut [u8; 262144]) -> SessionAnswered
     requires { ⌜ ValidSession s ⌝ }
     requires { ⌜ length (now cells) ≡ 4096 ⌝ }
@@ -221,13 +220,13 @@ fn call_answer(l: &[u8], s: Session, cells: &[u8], out: &mut [u8; 262144]) -> Se
         return bad(s, out);
     }
     let n = s.lent;
-    let e = s.engine;
+    let b = s.held;
     let bytes = &cells[..n];
-    let c = replay_calls::call(l, bytes, e);
+    let c = replay_calls::call(l, bytes, b);
     let reply = c.reply;
-    let engine = c.engine;
-    let len = put_reply(reply, l, bytes, engine, out);
-    let session = Session { engine, ..s };
+    let held = c.held;
+    let len = put_reply(reply, l, bytes, held, out);
+    let session = Session { held, ..s };
     SessionAnswered {
         len,
         more: goes_on(reply),
@@ -252,10 +251,10 @@ fn fill_answer(l: &[u8], s: Session, out: &mut [u8; 262144]) -> SessionAnswered
     if !fill_allowed(l) {
         return bad(s, out);
     }
-    let e = s.engine;
-    let f = fill(byte_at(l, 0), e, wide_at(l, 1) as usize, out);
-    let engine = f.engine;
-    let session = Session { engine, ..s };
+    let b = s.held;
+    let f = fill(byte_at(l, 0), b, wide_at(l, 1) as usize, out);
+    let held = f.held;
+    let session = Session { held, ..s };
     SessionAnswered {
         len: f.len,
         more: true,
@@ -263,7 +262,7 @@ fn fill_answer(l: &[u8], s: Session, out: &mut [u8; 262144]) -> SessionAnswered
     }
 }
 
-// A record that needs no engine.
+// A record that needs no box.
 fn alone_answer(l: &[u8], s: Session, out: &mut [u8; 262144]) -> SessionAnswered
     requires { ⌜ ValidSession s ⌝ }
     ensures { λ r. ⌜ Answers (aloneAnswer s (now (l .entry))) (now (out .entry)) (now (out .exit)) r ⌝ }
@@ -316,7 +315,10 @@ fn answer_for(
     whole(&*lent);
     let code = byte_at(l, 0);
     if code == 0x10 {
-        return open_answer(l, s, out);
+        return open_answer(false, l, s, out);
+    }
+    if code == 0x70 {
+        return open_answer(true, l, s, out);
     }
     if code == 0x12 {
         return lend_answer(l, s, lent, out);

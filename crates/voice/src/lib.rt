@@ -139,10 +139,10 @@ impl Voice {
         let voice = Voice { source, ..self };
         match given {
             Given::Sample(raw) => {
-                let s = fixed::apply_gain_q8(raw, adsr.level_q8);
+                let s = fixed::apply_document_01_gain(raw, adsr.level_q8);
                 VoiceStep {
                     voice,
-                    given: Given::Sample(fixed::apply_gain_q8(s, self.gain_q8)),
+                    given: Given::Sample(fixed::apply_document_01_gain(s, self.gain_q8)),
                 }
             }
             Given::None => VoiceStep {
@@ -162,8 +162,8 @@ impl Voice {
         match given {
             Given::Sample(s) => {
                 let gains = fixed::pan_to_gains_q8(self.pan_q8);
-                let left = fixed::apply_gain_q8(s, gains.left);
-                let right = fixed::apply_gain_q8(s, gains.right);
+                let left = fixed::apply_document_01_gain(s, gains.left);
+                let right = fixed::apply_document_01_gain(s, gains.right);
                 StereoStep {
                     voice,
                     given: StereoGiven::Pair(left, right),

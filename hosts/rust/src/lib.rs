@@ -1,5 +1,6 @@
 //! The proved calls of Birchjack, the corridor sounder's mixer, over its static library. No call has a precondition that these functions
-//! leave to their caller, none keeps what it is lent, and none has state between calls.
+//! leave to their caller, none keeps what it is lent, and none has state between calls. The rules are the present ones (document 02): a gain
+//! of 255 hands the sample through. Only a script may open document 01's box, by its record 10.
 //!
 //! SAFETY of every call below: the library asks that each pointer is valid for its length and that what is written is no other's during
 //! the call, and a slice or a reference is that.
@@ -24,7 +25,7 @@ pub use refusal::Refusal;
 pub use script::{Ran, answers, answers_of, sound, sound_of};
 pub use writing::{NewEntry, bank_of, write_bank};
 
-/// A sample by a gain in 256ths, floored.
+/// A sample by a gain in 256ths, floored; 255 hands it through.
 pub fn gain(sample: i8, gain_q8: u8) -> i8 {
     unsafe { raw::birchjack_gain(sample, gain_q8) }
 }

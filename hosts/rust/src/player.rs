@@ -1,4 +1,4 @@
-//! An engine that is opened, plays requests and gives frames, all in one call.
+//! A box of the present rules that is opened, plays requests and gives frames, all in one call.
 
 use crate::{Bank, Envelope, Refusal, raw};
 
@@ -75,7 +75,7 @@ pub struct Played {
     pub audible: usize,
 }
 
-/// An engine of some voices with a policy and a master gain. Each call opens it anew, sets the bank and plays the requests one after
+/// A box of some voices with a policy and a master gain. Each call opens it anew, sets the bank and plays the requests one after
 /// another; those that give frames then let voice 0 sound the tone, where there is one. More than 16 voices, a rate above 65,537 and
 /// a bank whose entries go past its bytes are refused, and then nothing is written.
 #[derive(Clone, Copy, Debug)]

@@ -1,4 +1,4 @@
-//! The library's functions as crates/exports has them; `tools/header` compares the two. A slice is a pointer and then a length, an array a
+//! The library's functions as crates/exports and crates/exports_replay have them; `tools/header` compares the two. A slice is a pointer and then a length, an array a
 //! pointer.
 
 unsafe extern "C" {

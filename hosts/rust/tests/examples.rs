@@ -1,4 +1,4 @@
-//! Document 01's checked examples and its refusals, through the library.
+//! The papers' checked examples and the refusals, through the library.
 
 use birchjack::{
     Bank, DutyMode, Envelope, NewEntry, Played, Player, Policy, PolyBlep, Refusal, Request,
@@ -40,7 +40,9 @@ fn numbers() {
     assert_eq!([0, 64, 192, 255].map(birchjack::sine), [0, 63, -63, 0]);
     assert_eq!(birchjack::phase_increment(1000, 8000), 536_870_912);
     assert_eq!(birchjack::phase_increment(1000, 0), 0);
-    assert_eq!([127, -127].map(|s| birchjack::gain(s, 255)), [126, -127]);
+    // 255 hands the sample through
+    assert_eq!([127, -127].map(|s| birchjack::gain(s, 255)), [127, -127]);
+    assert_eq!([127, -127].map(|s| birchjack::gain(s, 254)), [126, -127]);
     assert_eq!(birchjack::lerp(-128, 127, 128), -1);
     assert_eq!(
         [0, 128, 129].map(birchjack::pan_gains),
@@ -439,6 +441,23 @@ fn pans() {
     assert_eq!(sides(&[0]), (true, false));
     assert_eq!(sides(&[255, 0]), (false, true));
     assert_eq!(sides(&[128, 0, 0, 0]), (true, true));
+}
+
+/// The frames are those of a script that opens its box by record 70; by record 10 they are others.
+#[test]
+fn present_rules() {
+    let bank: String = BELL.iter().map(|b| format!("{b:02X}")).collect();
+    let sound = |record| {
+        // two voices, the bank, the ring, voice 0 more to the left, 64 stereo cells
+        let script = format!(
+            "{record} 02 00001F40 03E8 00 FF 00\n12 {bank}\n11 00001F40 0001\n13 0007 0002 0028 00 000A 03\n17 00 1E\n29 0040\n"
+        );
+        birchjack::sound_of(script.replace(' ', "").as_bytes())
+    };
+    let mut cells = [0; 64];
+    assert_eq!(player().stereo_i16(&[0x1E], &[ring(3)], &mut cells), Ok(()));
+    assert_eq!(sound("70"), (cells.to_vec(), true));
+    assert_ne!(sound("10"), (cells.to_vec(), true));
 }
 
 #[test]

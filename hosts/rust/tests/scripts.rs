@@ -48,8 +48,8 @@ fn as_much_as_there_is_room_for() {
 
 #[test]
 fn sounds() {
-    // two voices at 16,000 Hz, a square of 1,000 Hz that does not end, three frames as duties and one stereo pair of them
-    let script = b"100200003E8003E800FF00\n15000003E8000000\n200003\n290002\n";
+    // present rules: two voices at 16,000 Hz, a square of 1,000 Hz that does not end, three frames as duties and one stereo pair of them
+    let script = b"700200003E8003E800FF00\n15000003E8000000\n200003\n290002\n";
     let (cells, good) = sound_of(script);
     assert!(good);
     assert_eq!(cells.len(), 8);
@@ -64,7 +64,7 @@ fn sounds() {
         .chunks(4)
         .map(|d| u16::from_str_radix(std::str::from_utf8(d).unwrap(), 16).unwrap())
         .collect();
-    assert_eq!(duties, [0x01F7, 0x0213, 0x023E]);
+    assert_eq!(duties, [0x01FF, 0x021B, 0x0246]);
     for (pair, duty) in cells[..6].chunks(2).zip(duties) {
         assert_eq!(birchjack::duty_of((pair[0] / 256) as i8, 1000), Ok(duty));
     }

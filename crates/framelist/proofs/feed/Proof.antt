@@ -1,15 +1,15 @@
--- `framelist::feed` is safe, ends and keeps the engine valid. The measure is what is left of the chunk.
+-- `framelist::feed` is safe, ends and keeps the box valid. The measure is what is left of the chunk.
 use borrow.Author.Needs.{needs}
 use Prim.Native.Nat.{_-_, _≤_, _<_}
 use native.Mathlib.Omega.{arith}
 use lib.ListN.{length}
-use Rattle.engine.specs.Engines.{ValidEngine}
+use Rattle.sounder.specs.Sounders.{ValidSounder}
 use Rattle.input_lines.proofs.Laws.{reads-on}
 use Rattle.framelist.proofs.feed.Statement.{statement}
 use Rattle.framelist.proofs.feed.Tie as tie
 
 abbrev Inv-loop : tie.InvT-loop
-Inv-loop chunk line₀ out₀ t₀ i₀ line out t i = (i ≤ length chunk) × ValidEngine (t .engine)
+Inv-loop chunk line₀ out₀ t₀ i₀ line out t i = (i ≤ length chunk) × ValidSounder (t .sounder)
 
 abbrev μ-loop : tie.MeasureT-loop
 μ-loop chunk line₀ out₀ t₀ i₀ line out t i = length chunk - i

@@ -4,19 +4,19 @@ use mathlib.Core.Path.{refl, ap}
 use Prim.Native.Nat.{_+_, _*_, _≤_}
 use native.Mathlib.Omega.{arith}
 use Rattle.hex.proofs.Texts.{shown, then}
-use Rattle.engine.specs.Engines.{ValidEngine}
-use Rattle.engine.specs.declared.ticks.EngineDuty.{EngineDuty}
+use Rattle.sounder.specs.Sounders.{ValidSounder}
+use Rattle.sounder.specs.declared.ticks.SounderDuty.{SounderDuty}
 use Rattle.framelist_answers.specs.Lines.{next, dutyLine}
 use Rattle.framelist_answers.proofs.Frames.{Going, going-start, going-turn, going-end, going-same}
 use Rattle.framelist_answers.proofs.frames_answer.Statement.{statement}
 use Rattle.framelist_answers.proofs.frames_answer.Tie as tie
 
 abbrev Inv-loop : tie.InvT-loop
-Inv-loop count out₀ engine₀ at₀ left₀ out engine at left =
-    Going next dutyLine out₀ count engine₀ out at left engine × ValidEngine engine × (at + 5 * left ≤ 5 * count)
+Inv-loop count out₀ sounder₀ at₀ left₀ out sounder at left =
+    Going next dutyLine out₀ count sounder₀ out at left sounder × ValidSounder sounder × (at + 5 * left ≤ 5 * count)
 
 abbrev μ-loop : tie.MeasureT-loop
-μ-loop count out₀ engine₀ at₀ left₀ out engine at left = left
+μ-loop count out₀ sounder₀ at₀ left₀ out sounder at left = left
 
 loop-again : tie.Need-loop-again Inv-loop μ-loop
 loop-again c =
@@ -25,8 +25,8 @@ loop-again c =
     let t = p .before .before .before in
     let v = t .before .before .loop .inv in
     let same = t .tick .ensures .same in (
-      going-turn next dutyLine (t .before .loop-test .taken) (ap (λ (d : EngineDuty). d .engine) same) (v .0)
-          (then (shown 4 (ap (λ (d : EngineDuty). d .duty) same) (p .put .ensures .0)) (l .end-line .ensures .0)),
+      going-turn next dutyLine (t .before .loop-test .taken) (ap (λ (d : SounderDuty). d .sounder) same) (v .0)
+          (then (shown 4 (ap (λ (d : SounderDuty). d .duty) same) (p .put .ensures .0)) (l .end-line .ensures .0)),
       t .tick .ensures .valid,
       omega (arith, p .put .ensures .1, l .end-line .ensures .1),
     )
@@ -38,7 +38,7 @@ returns c =
     record {
       laid = going-end next dutyLine z (omega (arith, l .inv .2, c .before .before .fits .count)) (l .inv .0);
       more = refl;
-      engine = record { same = going-same next dutyLine z (l .inv .0); valid = l .inv .1 };
+      sounder = record { same = going-same next dutyLine z (l .inv .0); valid = l .inv .1 };
     }
 
 pub frames-answer-spec : {M : Type 1} → statement M

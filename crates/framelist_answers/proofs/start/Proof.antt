@@ -1,4 +1,4 @@
--- The engine is the one that opening gave. Assumes nothing.
+-- The box is the one that opening gave. Assumes nothing.
 use borrow.Author.Needs.{needs}
 use Rattle.framelist_answers.specs.Lines.{started}
 use Rattle.framelist_answers.proofs.start.Statement.{statement}

@@ -20,7 +20,7 @@ returns c =
     record {
       laid = nothing _;
       more = refl;
-      engine = rw (w .wide-at .ensures, h .long-at .ensures, f .tone-waveform .ensures, f .before .byte-at .ensures) at (c .play-tone .ensures);
+      sounder = rw (w .wide-at .ensures, h .long-at .ensures, f .tone-waveform .ensures, f .before .byte-at .ensures) at (c .play-tone .ensures);
     }
 
 pub tone-answer-spec : {M : Type 1} → statement M

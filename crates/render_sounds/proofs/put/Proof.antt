@@ -1,17 +1,16 @@
--- `render_sounds::put` meets its contract: what the engine's buffer calls promise of the first cells.
+-- `render_sounds::put` meets its contract: what the box's buffer calls promise of the first cells.
 use borrow.Author.Needs.{needs}
 use mathlib.Core.Path.{sym}
 use Prim.Native.Nat.{_*_}
 use lib.Seq.{length-take-le}
-use Rattle.frame.specs.Frames.{monoFrame, stereoFrame}
-use Rattle.frame.specs.Runs.{monoStep, stereoStep}
 use Rattle.buffers.specs.Buffers.{toI16}
+use Rattle.replay_box.specs.Frames.{frames}
 use Rattle.render_sounds.proofs.Pairs.{sounded}
 use Rattle.render_sounds.proofs.put.Statement.{statement}
 use Rattle.render_sounds.proofs.put.Tie as tie
 
-slice-aggregate-fill-stereo-panned-i16-buffer : tie.Need-slice-aggregate-fill-stereo-panned-i16-buffer
-slice-aggregate-fill-stereo-panned-i16-buffer c = let s = c .before .before in sym (length-take-le (2 * s .args .n) (s .args .out .now) (s .pre .1))
+slice-aggregate-fill-i16 : tie.Need-slice-aggregate-fill-i16
+slice-aggregate-fill-i16 c = let s = c .before .before in sym (length-take-le (2 * s .args .n) (s .args .out .now) (s .pre .1))
 
 returns : tie.Need-returns
 returns c =
@@ -19,10 +18,10 @@ returns c =
     let t = f .before .before in
     let s = t .before in
     rw (t .if1 .taken)
-    (sounded stereoStep (λ m. toI16 (stereoFrame m .left)) (λ m. toI16 (stereoFrame m .right)) (s .args .n) (s .args .out .now) (s .pre .1) (f .fill-stereo-panned-i16-buffer .ensures))
+    (sounded (frames .stereo) (λ b. toI16 (frames .left b)) (λ b. toI16 (frames .right b)) (s .args .n) (s .args .out .now) (s .pre .1) (f .fill-i16 .ensures))
 
-slice-aggregate-fill-stereo-i16-buffer : tie.Need-slice-aggregate-fill-stereo-i16-buffer
-slice-aggregate-fill-stereo-i16-buffer c = let s = c .before .before in sym (length-take-le (2 * s .args .n) (s .args .out .now) (s .pre .1))
+slice-aggregate-fill-i16-2 : tie.Need-slice-aggregate-fill-i16-2
+slice-aggregate-fill-i16-2 c = let s = c .before .before in sym (length-take-le (2 * s .args .n) (s .args .out .now) (s .pre .1))
 
 returns-2 : tie.Need-returns-2
 returns-2 c =
@@ -30,7 +29,7 @@ returns-2 c =
     let t = f .before .before in
     let s = t .before in
     rw (t .if1 .left)
-    (sounded monoStep (λ m. toI16 (monoFrame m .pcm)) (λ m. toI16 (monoFrame m .pcm)) (s .args .n) (s .args .out .now) (s .pre .1) (f .fill-stereo-i16-buffer .ensures))
+    (sounded (frames .mono) (λ b. toI16 (frames .pcm b)) (λ b. toI16 (frames .pcm b)) (s .args .n) (s .args .out .now) (s .pre .1) (f .fill-i162 .ensures))
 
 pub put-spec : {M : Type 1} → statement M
 put-spec =
@@ -38,12 +37,12 @@ put-spec =
     (tie.spec
     (λ c. search needs)
     (λ c. search needs)
-    slice-aggregate-fill-stereo-panned-i16-buffer
+    slice-aggregate-fill-i16
     (λ c κs. search needs)
     (λ c. search needs)
     returns
     (λ c. search needs)
-    slice-aggregate-fill-stereo-i16-buffer
+    slice-aggregate-fill-i16-2
     (λ c κs. search needs)
     (λ c. search needs)
     returns-2)

@@ -15,7 +15,7 @@ put-requires c κs =
     let o = f .before in
     let s = o .before .before in
     let few : f .frames .result ≤ 2048 = omega (arith, f .frames .ensures, few-frames (o .is-open .result) (s .args .line .now)) in
-    (rw (e .engine .ensures) (s .pre .inside), search needs)
+    (rw (e .held .ensures) (s .pre .inside), search needs)
 
 returns : tie.Need-returns
 unfolding soundOf
@@ -24,7 +24,7 @@ returns c =
     let b = i .before in
     let e = b .before in
     let f = e .before in
-    rw (sym (b .byte-at .ensures), sym (i .is-stereo .ensures), sym (e .engine .ensures), sym (f .before .is-open .ensures), sym (f .frames .ensures)) (c .put .ensures)
+    rw (sym (b .byte-at .ensures), sym (i .is-stereo .ensures), sym (e .held .ensures), sym (f .before .is-open .ensures), sym (f .frames .ensures)) (c .put .ensures)
 
 pub sound-spec : {M : Type 1} → statement M
 sound-spec =

@@ -1,4 +1,4 @@
--- `replay_calls::fade_call` meets its contract: what the engine promises, with the fields of the line.
+-- `replay_calls::fade_call` meets its contract: what the box promises, with the fields of the line.
 use borrow.Author.Needs.{needs}
 use mathlib.Core.Path.{sym}
 use Rattle.replay_calls.specs.Calls.{fadeCall}

@@ -1,4 +1,4 @@
--- `replay_calls::fade_left_call` meets its contract: what the engine promises.
+-- `replay_calls::fade_left_call` meets its contract: what the box promises.
 use borrow.Author.Needs.{needs}
 use Rattle.replay_calls.specs.Calls.{fadeLeftCall}
 use Rattle.replay_calls.proofs.fade_left_call.Statement.{statement}

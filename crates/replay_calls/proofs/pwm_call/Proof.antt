@@ -1,4 +1,4 @@
--- `replay_calls::pwm_call` meets its contract: what the engine promises of a frame.
+-- `replay_calls::pwm_call` meets its contract: what the box promises of a frame.
 use borrow.Author.Needs.{needs}
 use Rattle.replay_calls.specs.Calls.{dutyCall}
 use Rattle.replay_calls.proofs.Calling.{timed}

@@ -1,4 +1,4 @@
--- `replay_calls::search_call` meets its contract: what the engine promises, with the fields of the line.
+-- `replay_calls::search_call` meets its contract: what the box promises, with the fields of the line.
 use borrow.Author.Needs.{needs}
 use Rattle.replay_calls.specs.Calls.{searchCall}
 use Rattle.replay_calls.proofs.search_call.Statement.{statement}

@@ -1,4 +1,4 @@
--- `replay_calls::stereo_call` meets its contract: what the engine promises of a frame.
+-- `replay_calls::stereo_call` meets its contract: what the box promises of a frame.
 use borrow.Author.Needs.{needs}
 use native.Mathlib.Omega.{arith}
 use mir.Syntax.{w8}

@@ -1,4 +1,4 @@
--- `replay_calls::stop_call` meets its contract: what the engine promises, with the fields of the line.
+-- `replay_calls::stop_call` meets its contract: what the box promises, with the fields of the line.
 use borrow.Author.Needs.{needs}
 use Rattle.replay_calls.specs.Calls.{stopCall}
 use Rattle.replay_calls.proofs.stop_call.Statement.{statement}

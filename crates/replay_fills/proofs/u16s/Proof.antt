@@ -1,12 +1,8 @@
 -- `replay_fills::u16s` meets its contract: the part that the call left is printed whole.
 use borrow.Author.Needs.{needs}
-use native.Mathlib.Omega.{arith}
 use mathlib.Core.Path.{sym}
-use Rattle.buffers.specs.Shapes.{levelStep, levelOf}
-use Rattle.hex.proofs.Texts.{length-hexOf}
-use Rattle.replay_cells.specs.Cells.{wideText}
 use Rattle.replay_fills.specs.Fills.{blankU16}
-use Rattle.replay_fills.proofs.Buffers.{Lent, lent-length, Back, back-fits, back-length, singly-shown}
+use Rattle.replay_fills.proofs.Buffers.{Lent, lent-length, Back, back-fits, back-length, level-shown}
 use Rattle.replay_fills.proofs.u16s.Statement.{statement}
 use Rattle.replay_fills.proofs.u16s.Tie as tie
 
@@ -19,8 +15,7 @@ back f = record { lent = lent (f .before .before); kept = f .fill-u16 .kept .1 .
 returns : tie.Need-returns
 returns c =
     let f = c .before .before .before .before .before in
-    let level = f .before .before .before .args .level in
-    singly-shown wideText 4 (λ x. length-hexOf 4 x) (omega arith) (levelStep level) (levelOf level) (back f) (f .fill-u16 .ensures) (c .put-u16s .ensures)
+    level-shown (f .before .before .before .args .level) (back f) (f .fill-u16 .ensures) (c .put-u16s .ensures)
 
 pub u16s-spec : {M : Type 1} → statement M
 u16s-spec =

@@ -2,11 +2,12 @@
 use borrow.Author.Needs.{needs}
 use mathlib.Core.Path.{refl, sym}
 use native.Mathlib.Omega.{arith}
+use Rattle.replay_box.proofs.Laws.{valid-mixer}
 use Rattle.replay_replies.proofs.put_reply.Statement.{statement}
 use Rattle.replay_replies.proofs.put_reply.Tie as tie
 
 put-dump-requires : tie.Need-put-dump-requires
-put-dump-requires c κs = rw (c .before .state .ensures) (c .before .before .before .before .before .before .pre .inside)
+put-dump-requires c κs = rw (c .before .state .ensures) (valid-mixer (c .before .before .before .before .before .before .pre))
 
 returns : tie.Need-returns
 returns c = rw (c .before .before .enum-told .given .1) (c .put-line .ensures .0)

@@ -3,6 +3,8 @@ use borrow.Author.Needs.{needs}
 use mathlib.Core.Path.{sym, _∙_}
 use native.Mathlib.Omega.{arith}
 use Rattle.hex.proofs.Texts.{then, whole}
+use Rattle.replay_box.specs.Boxes.{mixerOf}
+use Rattle.replay_box.proofs.Laws.{valid-mixer}
 use Rattle.replay_replies.proofs.Payload.{read-valid}
 use Rattle.replay_replies.proofs.put_voice_at.Statement.{statement}
 use Rattle.replay_replies.proofs.put_voice_at.Tie as tie
@@ -11,7 +13,7 @@ put-voice-requires : tie.Need-put-voice-requires
 put-voice-requires c κs =
     let b = c .before .before in
     let v = b .before .before in
-    read-valid (v .before .args .e .state) (v .before .args .i) (v .before .pre .inside) (sym (v .voice .ensures) ∙ b .read .given .1)
+    read-valid (mixerOf (v .before .args .e)) (v .before .args .i) (valid-mixer (v .before .pre)) (sym (v .voice .ensures) ∙ b .read .given .1)
 
 returns : tie.Need-returns
 returns c =

@@ -1,4 +1,4 @@
--- `replay_session::call_answer` meets its contract: what the call promises, its reply as text, and the run with the engine after it.
+-- `replay_session::call_answer` meets its contract: what the call promises, its reply as text, and the run with the box after it.
 use borrow.Author.Needs.{needs}
 use mathlib.Core.Path.{refl}
 use native.Mathlib.Omega.{arith}

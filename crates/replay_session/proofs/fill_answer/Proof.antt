@@ -1,4 +1,4 @@
--- `replay_session::fill_answer` meets its contract: what the fill promises, and the run with the engine after it.
+-- `replay_session::fill_answer` meets its contract: what the fill promises, and the run with the box after it.
 use borrow.Author.Needs.{needs}
 use mathlib.Core.Path.{sym, _∙_}
 use Prim.Native.Nat.{_≤_}

@@ -1,13 +1,13 @@
--- `exports::plays::birchjack_stereo_i16` meets its contract: the refusal's number, or the engine's buffer call.
+-- `exports::plays::birchjack_stereo_i16` meets its contract: the refusal's number, or the box's buffer call.
 use borrow.Author.Needs.{needs}
-use Rattle.exports.proofs.Ready.{ready-refused, ready-done}
+use Rattle.exports_parts.proofs.Ready.{told-refused, told-done}
 use Rattle.exports.proofs.plays.birchjack_stereo_i16.Statement.{statement}
 use Rattle.exports.proofs.plays.birchjack_stereo_i16.Tie as tie
 
 returns : tie.Need-returns
 returns c =
     let k = c .before .before .before .before in
-    let t = ready-refused (rw (k .before .settings .ensures) at (k .ready .ensures .same)) (c .before .before .outcome .given .1) in
+    let t = told-refused _ _ (rw (k .before .settings .ensures) at (k .ready .ensures .same)) (c .before .before .outcome .given .1) in
     record { number = rw (t, c .number .ensures); cells = rw t }
 
 returns-2 : tie.Need-returns-2
@@ -17,7 +17,7 @@ returns-2 c =
     let b = p .before in
     let d = b .before .before in
     let k = d .before .before in
-    let t = ready-done (rw (k .before .settings .ensures) at (k .ready .ensures .same)) (d .enum-told .given .1) in
+    let t = told-done _ _ (rw (k .before .settings .ensures) at (k .ready .ensures .same)) (d .enum-told .given .1) in
     record { number = rw t; cells = rw (t, f .fill-stereo-panned-i16-buffer .ensures .content, p .panned .ensures .same, b .sounding .ensures .same) }
 
 pub birchjack-stereo-i16-spec : {M : Type 1} → statement M

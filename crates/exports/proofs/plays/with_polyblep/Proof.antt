@@ -1,6 +1,6 @@
 -- `exports::plays::with_polyblep` meets its contract.
 use borrow.Author.Tests.{lt-ltb, le-ltb}
-use Rattle.exports.specs.Plays.{withPolyBlep}
+use Rattle.exports_parts.specs.Plays.{withPolyBlep}
 use borrow.Author.Needs.{needs}
 use Rattle.exports.proofs.plays.with_polyblep.Statement.{statement}
 use Rattle.exports.proofs.plays.with_polyblep.Tie as tie

@@ -10,7 +10,7 @@ returns : tie.Need-returns
 unfolding gainReply
 returns c =
     let s = c .before .before .before .as-i8 in
-    let g = c .before .apply-gain-q8 in
+    let g = c .before .apply-gain-by in
     cc (back w8 (s .result) (s .ok), back w8 (g .result) (g .ok))
 
 pub gain-spec : {M : Type 1} → statement M

@@ -1,4 +1,4 @@
--- `replay_session::Session::new` meets its contract: the engine that stands there is one that opening gave.
+-- `replay_session::Session::new` meets its contract: the box that stands there is one of no voices.
 use borrow.Author.Needs.{needs}
 use native.Mathlib.Omega.{arith}
 use Rattle.replay_session.specs.Sessions.{started}
@@ -7,7 +7,7 @@ use Rattle.replay_session.proofs.Session.new.Tie as tie
 
 returns : tie.Need-returns
 unfolding started
-returns c = let o = c .before .«open» .ensures in record { same = rw (o .same); valid = record { inside = o .valid; short = omega arith } }
+returns c = let o = c .none .ensures in record { same = rw (o .same); valid = record { inside = o .valid; short = omega arith } }
 
 pub new-spec : {M : Type 1} → statement M
 new-spec =

@@ -19,7 +19,7 @@ returns c =
     let s = n .before .before in
     let e = n .next-raw-sample .ensures .same in
     let g = ap (λ (x : SourceStep). x .given) (sym e) ∙ told .given .given .1 in
-    made (rw (toZ-ofZ w8 (c .apply-gain-q82 .result) (record { sfits = c .apply-gain-q82 .ok }), c .apply-gain-q82 .ensures, toZ-ofZ w8 (one .apply-gain-q8 .result) (record { sfits = one .apply-gain-q8 .ok }), one .apply-gain-q8 .ensures, toZ-ofZ w8 (told .given .given .0 .0) (record { sfits = one .before .known-told .given .0 .1 }), e, g))
+    made (rw (toZ-ofZ w8 (c .apply-document-01-gain2 .result) (record { sfits = c .apply-document-01-gain2 .ok }), c .apply-document-01-gain2 .ensures, toZ-ofZ w8 (one .apply-document-01-gain .result) (record { sfits = one .apply-document-01-gain .ok }), one .apply-document-01-gain .ensures, toZ-ofZ w8 (told .given .given .0 .0) (record { sfits = one .before .known-told .given .0 .1 }), e, g))
     (valid-stepped (s .pre))
 
 returns-2 : tie.Need-returns-2

@@ -19,7 +19,7 @@ returns c =
     let n = told .before .before .before in
     let e = n .next-sample .ensures .same in
     let g = ap (λ (x : VoiceStep). x .given) (sym e) ∙ told .given .given .1 in
-    made (rw (toZ-ofZ w8 (l .apply-gain-q8 .result) (record { sfits = l .apply-gain-q8 .ok }), toZ-ofZ w8 (c .apply-gain-q82 .result) (record { sfits = c .apply-gain-q82 .ok }), l .apply-gain-q8 .ensures, c .apply-gain-q82 .ensures, toZ-ofZ w8 (told .given .given .0 .0) (record { sfits = p .before .known-told .given .0 .1 }), p .pan-to-gains-q8 .ensures, e, g))
+    made (rw (toZ-ofZ w8 (l .apply-document-01-gain .result) (record { sfits = l .apply-document-01-gain .ok }), toZ-ofZ w8 (c .apply-document-01-gain2 .result) (record { sfits = c .apply-document-01-gain2 .ok }), l .apply-document-01-gain .ensures, c .apply-document-01-gain2 .ensures, toZ-ofZ w8 (told .given .given .0 .0) (record { sfits = p .before .known-told .given .0 .1 }), p .pan-to-gains-q8 .ensures, e, g))
     (valid-stepped (n .before .pre))
 
 returns-2 : tie.Need-returns-2

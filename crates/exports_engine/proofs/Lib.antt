@@ -1,0 +1,1 @@
+-- How the calls over document 01's box are proved: each function's proof stands in its folder, over `exports_parts`.

@@ -26,7 +26,7 @@ enum birchjack_refusal {
     BIRCHJACK_VOICE_COUNT = 1,         /* more than 16 voices */
     BIRCHJACK_BAD_RATE = 2,            /* sample rate above 65,537 */
     BIRCHJACK_BAD_PERIOD = 3,          /* PWM period below 2 */
-    BIRCHJACK_TRUNCATED_BANK = 4,      /* entries or a payload go past the bank's bytes */
+    BIRCHJACK_TRUNCATED_BANK = 4,      /* entries go past the bank's bytes */
     BIRCHJACK_VOICE_BUSY = 5,          /* no voice for the request */
     BIRCHJACK_NO_BANK = 6,             /* no bank set */
     BIRCHJACK_BANK_MISMATCH = 7,       /* another number of bytes lent than set */
@@ -36,7 +36,9 @@ enum birchjack_refusal {
     BIRCHJACK_BAD_SUM = 11,            /* a sum outside -2,048..2,032 */
     BIRCHJACK_LOW_RATE = 12,           /* an evacuation pattern or its reader at a rate below 20 */
     BIRCHJACK_BAD_ENTRIES = 13,        /* entries that make no bank */
-    BIRCHJACK_SHORT_BUFFER = 14        /* a buffer shorter than what is written to it */
+    BIRCHJACK_SHORT_BUFFER = 14,       /* a buffer shorter than what is written to it */
+    BIRCHJACK_BAD_OFFSET = 15,         /* a payload's offset is past the end of the bank */
+    BIRCHJACK_BAD_LENGTH = 16          /* a payload runs past the end of the bank */
 };
 
 /* ---- numbers alone */
@@ -104,11 +106,12 @@ uint8_t birchjack_evacuation_reads(uint32_t sample_rate_hz, const uint8_t *recor
 uint8_t birchjack_find(const uint8_t *bytes, size_t bytes_len, uint32_t sample_rate_hz, uint16_t effect_count, uint16_t id,
                        uint32_t (*out)[8]);
 
-/* Whether a payload is there: 0, and then it is bytes[offset] up to bytes[offset + len]; or 4. */
+/* Whether a payload is there: 0, and then it is bytes[offset] up to bytes[offset + len]; 15 for an offset past the end of the bank, 16 for a
+ * payload that runs past it. 4 where the entries do. */
 uint8_t birchjack_payload(const uint8_t *bytes, size_t bytes_len, uint32_t sample_rate_hz, uint16_t effect_count, uint32_t offset,
                           uint32_t len);
 
-/* The payload of the entry with an id: its offset in the bytes and its length. 4, 8 and 9 as above. */
+/* The payload of the entry with an id: its offset in the bytes and its length. 4, 8, 9, 15 and 16 as above. */
 uint8_t birchjack_payload_of(const uint8_t *bytes, size_t bytes_len, uint32_t sample_rate_hz, uint16_t effect_count, uint16_t id,
                              uint32_t (*out)[2]);
 

@@ -11,17 +11,45 @@ pub struct Replacement {
 }
 
 /// Every gain goes through the one function: envelope, voice and pan in `voice.rs`, master in `engine.rs`. FM's depth, the
-/// interpolations and the fade's mix have sums of their own and stay.
-pub const REPLACEMENTS: &[Replacement] = &[Replacement {
-    name: "T-03: gain 255 hands the sample through",
-    file: "fixed.rs",
-    old: "pub fn apply_gain_q8(sample: i8, gain_q8: u8) -> i8 {\n",
-    new: "pub fn apply_gain_q8(sample: i8, gain_q8: u8) -> i8 {
+/// interpolations and the fade's mix have sums of their own and stay. Every payload is found by the one lookup, at an entry start too; a
+/// bank that is set is not looked at there.
+pub const REPLACEMENTS: &[Replacement] = &[
+    Replacement {
+        name: "T-03: gain 255 hands the sample through",
+        file: "fixed.rs",
+        old: "pub fn apply_gain_q8(sample: i8, gain_q8: u8) -> i8 {\n",
+        new: "pub fn apply_gain_q8(sample: i8, gain_q8: u8) -> i8 {
     if gain_q8 == 255 {
         return sample;
     }
 ",
-}];
+    },
+    Replacement {
+        name: "T-06: which end of the payload is wrong",
+        file: "bank.rs",
+        old: "        self.data.get(start..end).ok_or(AudioError::TruncatedBank)\n",
+        new: "        if start > self.data.len() {
+            return Err(AudioError::OffsetBeyondBank);
+        }
+        self.data.get(start..end).ok_or(AudioError::PayloadRunsOver)
+",
+    },
+    Replacement {
+        name: "T-06: the two errors",
+        file: "error.rs",
+        old: "    InvalidPayload,\n}\n",
+        new: "    InvalidPayload,\n    OffsetBeyondBank,\n    PayloadRunsOver,\n}\n",
+    },
+    Replacement {
+        name: "T-06: the two errors' texts",
+        file: "error.rs",
+        old: "            Self::InvalidPayload => \"invalid effect payload\",\n",
+        new: "            Self::InvalidPayload => \"invalid effect payload\",
+            Self::OffsetBeyondBank => \"payload begins beyond the bank\",
+            Self::PayloadRunsOver => \"payload runs over the bank's end\",
+",
+    },
+];
 
 /// A file's text with the replacements that are for it. The old text of each must stand there exactly once, also after those before it.
 pub fn replaced(file: &str, original: &str, all: &[Replacement]) -> Result<String, String> {

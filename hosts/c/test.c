@@ -141,9 +141,12 @@ static void bank(void) {
 
     CHECK(birchjack_payload(bell, 28, 8000, 1, 26, 2) == 0);
     CHECK(birchjack_payload(bell, 28, 8000, 1, 28, 0) == 0);
-    CHECK(birchjack_payload(bell, 28, 8000, 1, 27, 2) == BIRCHJACK_TRUNCATED_BANK);
-    CHECK(birchjack_payload(bell, 28, 8000, 1, UINT32_MAX, UINT32_MAX) == BIRCHJACK_TRUNCATED_BANK);
-    CHECK(birchjack_payload_of(bell, 27, 8000, 1, 7, &part) == BIRCHJACK_TRUNCATED_BANK);
+    CHECK(birchjack_payload(bell, 28, 8000, 1, 27, 2) == BIRCHJACK_BAD_LENGTH);
+    CHECK(birchjack_payload(bell, 28, 8000, 1, 28, 1) == BIRCHJACK_BAD_LENGTH);
+    CHECK(birchjack_payload(bell, 28, 8000, 1, 29, 0) == BIRCHJACK_BAD_OFFSET);
+    CHECK(birchjack_payload(bell, 28, 8000, 1, UINT32_MAX, UINT32_MAX) == BIRCHJACK_BAD_OFFSET);
+    CHECK(birchjack_payload(bell, 25, 8000, 1, 0, 0) == BIRCHJACK_TRUNCATED_BANK);
+    CHECK(birchjack_payload_of(bell, 27, 8000, 1, 7, &part) == BIRCHJACK_BAD_LENGTH);
     CHECK(birchjack_payload_of(bell, 28, 8000, 1, 8, &part) == BIRCHJACK_EFFECT_NOT_FOUND);
     CHECK(part[0] == 55 && part[1] == 55);
     CHECK(birchjack_payload_of(bell, 28, 8000, 1, 7, &part) == 0 && part[0] == 26 && part[1] == 2);

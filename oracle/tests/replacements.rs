@@ -53,6 +53,17 @@ fn what_calls_the_gain() {
     assert_eq!(calls("fixed.rs"), 1);
 }
 
+/// T-06 changes the one lookup. An entry start calls it, and nothing else gives its error but reading a header, which the port does not carry over.
+#[test]
+fn what_calls_the_lookup() {
+    let calls = |file| original(file).matches(".payload(").count();
+    assert_eq!(["bank.rs", "engine.rs"].map(calls), [1, 1]);
+    let truncated = |file| original(file).matches("AudioError::TruncatedBank").count();
+    assert_eq!(["bank.rs", "engine.rs"].map(truncated), [3, 0]);
+    let changed = replaced("bank.rs", &original("bank.rs"), REPLACEMENTS).unwrap();
+    assert_eq!(changed.matches("AudioError::TruncatedBank").count(), 2);
+}
+
 #[test]
 fn a_text_that_is_not_there_once_is_an_error() {
     assert_eq!(replaced("a.rs", "a one b", &[ONE]).unwrap(), "a two b");
@@ -94,7 +105,7 @@ fn a_file_that_is_not_there_is_told() {
     assert_eq!(astray(&files, &[ONE, lost]), ["lost"]);
 }
 
-/// The build script itself, on an original of one file.
+/// The build script itself, on an original of the files that are changed, one of them spoilt.
 #[test]
 fn the_build_stops() {
     let folder = std::path::PathBuf::from(env!("CARGO_TARGET_TMPDIR")).join("replacements");
@@ -109,6 +120,9 @@ fn the_build_stops() {
         .arg(&program)
         .status();
     assert!(built.unwrap().success());
+    for Replacement { file, .. } in REPLACEMENTS {
+        std::fs::write(upstream.join(file), original(file)).unwrap();
+    }
     let build = |package: &str, from: &std::path::Path, text: &str| {
         std::fs::write(upstream.join("fixed.rs"), text).unwrap();
         let output = std::process::Command::new(&program)

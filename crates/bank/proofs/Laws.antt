@@ -13,7 +13,7 @@ use Rattle.bank.specs.declared.SoundBank.{SoundBank}
 use Rattle.bank.specs.declared.BankSet.{BankSet}
 use Rattle.bank.specs.declared.BankSet.the-variants as S
 use Rattle.bank.specs.Entries.{placeOf}
-use Rattle.bank.specs.Banks.{Valid, ValidBank, bankOf, lentBank, payloadGiven, payloadPart}
+use Rattle.bank.specs.Banks.{Valid, ValidBank, bankOf, lentBank, nowhere, atOffset, atLength, failsIn, payloadNumber, payloadUnder, payloadGiven, payloadPart}
 
 -- setting gives only valid banks
 pub new-valid : (rate count len : ℕ) → ValidTold Valid (bankOf rate count len)
@@ -50,17 +50,24 @@ lent-holds (S.Bank a) b lent v e = by-test (eqb lent (a .len)) refl e
     by-test false h e = let z : _≡_ {A = ℕ} 0 1 = cc in omega arith
 
 -- a payload that is whole ends within the bytes
-pub whole-within : (bank : BankSet) (bytes : List ℕ) (offset len : ℕ) → payloadGiven bank bytes offset len ≡ passed → offset + len ≤ length bytes
-unfolding payloadGiven
-whole-within bank bytes offset len e = by-bank (lentBank bank (length bytes)) e
+pub whole-within : (parted : Bool) (bank : BankSet) (bytes : List ℕ) (offset len : ℕ) → payloadUnder parted bank bytes offset len ≡ passed → offset + len ≤ length bytes
+unfolding payloadUnder
+whole-within parted bank bytes offset len e = by-bank (lentBank bank (length bytes)) e
   where
-    by-test : (t : Bool) → leb (offset + len) (length bytes) ≡ t → cond t passed (refused 4) ≡ passed → offset + len ≤ length bytes
-    by-test true h e = leb-true (offset + len) (length bytes) h
-    by-test false h e = let z : _≡_ {A = ℕ} 0 1 = cc in omega arith
+    size : ℕ
+    size = length bytes
 
-    by-bank : (t : Told SoundBank) → andThen t (λ b. cond (leb (offset + len) (length bytes)) passed (refused 4)) ≡ passed → offset + len ≤ length bytes
+    by-end : (u : Bool) → payloadNumber parted (cond u atOffset atLength) ≡ passed → offset + len ≤ size
+    by-end true e = let z : _≡_ {A = ℕ} 0 1 = cc in omega arith
+    by-end false e = let z : _≡_ {A = ℕ} 0 1 = cc in omega arith
+
+    by-test : (t : Bool) → leb (offset + len) size ≡ t → payloadNumber parted (cond t nowhere (cond (ltb size offset) atOffset atLength)) ≡ passed → offset + len ≤ size
+    by-test true h e = leb-true (offset + len) size h
+    by-test false h e = by-end (ltb size offset) e
+
+    by-bank : (t : Told SoundBank) → andThen t (λ b. payloadNumber parted (failsIn size offset len)) ≡ passed → offset + len ≤ size
     by-bank (refused n) e = let z : _≡_ {A = ℕ} 0 1 = cc in omega arith
-    by-bank (value b) e = by-test (leb (offset + len) (length bytes)) refl e
+    by-bank (value b) e = by-test (leb (offset + len) size) refl e
 
 -- the part of a payload that is whole: from its offset, of its length
 pub whole-part : (bank : BankSet) (bytes : List ℕ) (offset len : ℕ) → payloadGiven bank bytes offset len ≡ passed → payloadPart bank bytes offset len ≡ take len (drop offset bytes)
@@ -68,13 +75,14 @@ whole-part bank bytes offset len e = rw e
 
 pub whole-length : (bank : BankSet) (bytes : List ℕ) (offset len : ℕ) → payloadGiven bank bytes offset len ≡ passed → length (payloadPart bank bytes offset len) ≡ len
 whole-length bank bytes offset len e =
-    let h = whole-within bank bytes offset len e in
+    let h = whole-within false bank bytes offset len e in
     rw e (length-take-le len (drop offset bytes) (rw length-drop (omega arith)))
 
 pub refused-part : (bank : BankSet) (bytes : List ℕ) (offset len : ℕ) {n : ℕ} → payloadGiven bank bytes offset len ≡ refused n → payloadPart bank bytes offset len ≡ []
 refused-part bank bytes offset len e = rw e
 
 -- "offset equal to the bank's length with length 0 is accepted"
-pub whole-at-end : (bank : BankSet) {b : SoundBank} (bytes : List ℕ) → lentBank bank (length bytes) ≡ value b → payloadGiven bank bytes (length bytes) 0 ≡ passed
-unfolding payloadGiven
-whole-at-end bank bytes e = rw (e, le-leb (length bytes + 0) (length bytes) (omega arith))
+pub whole-at-end : (parted : Bool) (bank : BankSet) {b : SoundBank} (bytes : List ℕ) → lentBank bank (length bytes) ≡ value b
+    → payloadUnder parted bank bytes (length bytes) 0 ≡ passed
+unfolding payloadUnder
+whole-at-end parted bank bytes e = rw (e, le-leb (length bytes + 0) (length bytes) (omega arith))

@@ -1,7 +1,7 @@
 -- Document 01, "Where a call is turned down": the places "Setting a bank", "Bank, for play, fade, entry search and payload lookup"
 -- and "payload lookup". Assumes nothing.
 use Prim.Native.Nat.{ℕ, _+_, _≤_}
-use mathlib.Core.Bool.{cond}
+use mathlib.Core.Bool.{Bool, false, cond}
 use mathlib.Core.List.{List, []}
 use lib.Dec.{eqb, ltb, leb}
 use lib.ListN.{length, take, drop}
@@ -47,10 +47,30 @@ abbrev pub entryGiven : BankSet → List ℕ → ℕ → Told EffectEntry
 entryGiven bank bytes index =
     andThen (lentBank bank (length bytes)) (λ b. cond (ltb index (b .«effect_count»)) (entryAt bytes index) (refused 8))
 
--- "A payload lookup takes an entry's offset and length and gives its number in one call": 4 where "offset + length exceeds the bank"
-unfoldable pub payloadGiven : BankSet → List ℕ → ℕ → ℕ → Told (Unit {0})
-payloadGiven bank bytes offset len =
-    andThen (lentBank bank (length bytes)) (λ b. cond (leb (offset + len) (length bytes)) passed (refused 4))
+-- Where a payload fails, if "offset + length exceeds the bank". Document 02: "offset beyond the bank", or "offset within or at its end, but the
+-- payload runs over".
+pub data Fails : Type 0 where
+  nowhere : Fails
+  atOffset : Fails
+  atLength : Fails
+
+abbrev pub failsIn : ℕ → ℕ → ℕ → Fails
+failsIn size offset len = cond (leb (offset + len) size) nowhere (cond (ltb size offset) atOffset atLength)
+
+-- each box's number for it: document 01's 4 for either, or, `parted`, document 02's 15 and 16
+abbrev pub payloadNumber : Bool → Fails → Told (Unit {0})
+payloadNumber parted nowhere = passed
+payloadNumber parted atOffset = refused (cond parted 15 4)
+payloadNumber parted atLength = refused (cond parted 16 4)
+
+-- "A payload lookup takes an entry's offset and length and gives its number in one call"
+unfoldable pub payloadUnder : Bool → BankSet → List ℕ → ℕ → ℕ → Told (Unit {0})
+payloadUnder parted bank bytes offset len =
+    andThen (lentBank bank (length bytes)) (λ b. payloadNumber parted (failsIn (length bytes) offset len))
+
+-- by document 01
+abbrev pub payloadGiven : BankSet → List ℕ → ℕ → ℕ → Told (Unit {0})
+payloadGiven bank bytes offset len = payloadUnder false bank bytes offset len
 
 abbrev pub toldPayload : PayloadRead → Told (Unit {0})
 toldPayload P.Whole = passed

@@ -5,7 +5,7 @@ ghost use Prim.Native.Nat.{_+_, _≤_, _<_};
 ghost use lib.ListN.{length};
 ghost use Rattle.error.specs.Told.{Answered};
 ghost use Rattle.bank.specs.Entries.{little16At, little32At, placeOf, entryAt, toldEntry};
-ghost use Rattle.bank.specs.Banks.{Valid, ValidBank, bankOf, lentBank, toldBank, entryGiven, payloadGiven, toldPayload, payloadPart};
+ghost use Rattle.bank.specs.Banks.{Valid, ValidBank, bankOf, lentBank, toldBank, entryGiven, failsIn, payloadNumber, payloadUnder, toldPayload, payloadPart};
 ghost use Rattle.bank.specs.Search.{upTo, decided, foundIn, foundGiven};
 ghost use Rattle.bank.specs.Loops.{settled};
 use error::AudioError;
@@ -231,25 +231,43 @@ pub fn find_by_id(bank: BankSet, bytes: &[u8], id: u16) -> EntryRead
     }
 }
 
+// Whether a payload lies in a bank of so many bytes; if not, and `parted`, which end of it is wrong.
+fn payload_in(size: usize, offset: u32, len: u32, parted: bool) -> PayloadRead
+    ensures { λ r. ⌜ toldPayload r ≡ payloadNumber parted (failsIn size offset len) ⌝ }
+{
+    let start = offset as usize;
+    if start + (len as usize) <= size {
+        return PayloadRead::Whole;
+    }
+    if parted {
+        if start > size {
+            return PayloadRead::Refused(AudioError::BadOffset);
+        }
+        return PayloadRead::Refused(AudioError::BadLength);
+    }
+    PayloadRead::Refused(AudioError::TruncatedBank)
+}
+
 // A payload's number, and the payload: the very part of the bytes lent, empty where it is refused.
-pub fn payload_number(bank: BankSet, bytes: &[u8], offset: u32, len: u32) -> PayloadRead
-    ensures { λ r. ⌜ toldPayload r ≡ payloadGiven bank (now (bytes .entry)) offset len ⌝ }
+pub fn payload_number(
+    bank: BankSet,
+    bytes: &[u8],
+    offset: u32,
+    len: u32,
+    parted: bool,
+) -> PayloadRead
+    ensures { λ r. ⌜ toldPayload r ≡ payloadUnder parted bank (now (bytes .entry)) offset len ⌝ }
 {
     match lent_bank(bank, bytes.len()) {
         BankRead::Refused(e) => PayloadRead::Refused(e),
-        BankRead::Bank(_) => {
-            if (offset as usize) + (len as usize) > bytes.len() {
-                return PayloadRead::Refused(AudioError::TruncatedBank);
-            }
-            PayloadRead::Whole
-        }
+        BankRead::Bank(_) => payload_in(bytes.len(), offset, len, parted),
     }
 }
 
 pub fn payload(bank: BankSet, bytes: &[u8], offset: u32, len: u32) -> &[u8]
     ensures { λ r. ⌜ now r ≡ payloadPart bank (now (bytes .entry)) offset len ⌝ }
 {
-    match payload_number(bank, bytes, offset, len) {
+    match payload_number(bank, bytes, offset, len, false) {
         PayloadRead::Refused(_) => &bytes[0..0],
         PayloadRead::Whole => {
             let start = offset as usize;

@@ -18,7 +18,7 @@ use Rattle.tier.specs.Kinds.{kindOf}
 use Rattle.laws.specs.Lists.{All}
 use Rattle.laws.proofs.Lists.{all-get, all-imp}
 use Rattle.bank.specs.Entries.{byteAt, little16At, little32At, placeOf, idAt, kindByte, fieldsAt, ofKind, entryAt}
-use Rattle.bank.specs.Banks.{bankOf, payloadGiven}
+use Rattle.bank.specs.Banks.{bankOf, payloadUnder}
 use Rattle.bank.specs.Search.{foundIn}
 use Rattle.bank.proofs.Laws.{lent-same}
 use Rattle.bank.proofs.Found as F
@@ -308,7 +308,7 @@ module _ (header : List ℕ) (ps : List Part) (ten : length header ≡ 10) (apar
         omega (arith, long, offset, total-le (entriesOf s) (k + 1), total-step (entriesOf s) k (omega (arith, below)))
 
   pub read-parts : ReadBack ps whole rate
-  unfolding bankOf payloadGiven
+  unfolding bankOf payloadUnder
   read-parts =
       let b = setAt rate ps whole in
       let n = length-by-id ps in
@@ -317,7 +317,7 @@ module _ (header : List ℕ) (ps : List Part) (ten : length header ≡ 10) (apar
         setting = rw (le-ltb 65537 rate slow, le-ltb (length whole) (placeOf (length ps)) w);
         known = λ i h. all-get Good ps i noPart good h .allowed .kind;
         found = λ i h. F.found-lent b whole (idOf (getD ps i noPart)) refl ∙ found-one i h;
-        number = λ i h. rw (lent-same b (length whole) refl, le-leb (offsetOf ps (getD ps i noPart) + getD ps i noPart .entry .len) (length whole) (within i h));
+        number = λ parted i h. rw (lent-same b (length whole) refl, le-leb (offsetOf ps (getD ps i noPart) + getD ps i noPart .entry .len) (length whole) (within i h));
         payload = λ i h. rw (lent-same b (length whole) refl, le-leb (offsetOf ps (getD ps i noPart) + getD ps i noPart .entry .len) (length whole) (within i h)) (payload-one i h);
         missing = λ id a. F.found-lent b whole id refl ∙ rw (← n) (missing-back header s ten (by-id-rises ps apart) sorted-good sorted-few id (by-id-all (λ q. idOf q ≡ id → ⊥) ps a));
       }

@@ -1,7 +1,7 @@
 -- What document 01's calls find in a bank that was written, and which bytes hold the same. Assumes nothing.
 use Prim.Native.Nat.{ℕ, _+_, _≤_, _<_}
 use mathlib.Core.Path.{_≡_}
-use mathlib.Core.Bool.{cond}
+use mathlib.Core.Bool.{Bool, cond}
 use mathlib.Core.List.{List, [], _∷_}
 use lib.Dec.{ltb}
 use lib.ListN.{length, getD, take, drop}
@@ -14,7 +14,7 @@ use Rattle.bank.specs.declared.SoundBank.{SoundBank}
 use Rattle.bank.specs.declared.BankSet.the-variants as S
 use Rattle.bank.specs.declared.EffectEntry.{EffectEntry}
 use Rattle.bank.specs.Entries.{byteAt, placeOf, entryAt}
-use Rattle.bank.specs.Banks.{bankOf, payloadGiven, payloadPart}
+use Rattle.bank.specs.Banks.{bankOf, payloadUnder, payloadPart}
 use Rattle.bank.specs.Search.{foundGiven}
 use Rattle.bank_writer.specs.declared.NewEntry.{NewEntry}
 use Rattle.bank_writer.specs.Order.{Part, idOf, noPart}
@@ -59,12 +59,12 @@ abbrev pub setAt : ℕ → List Part → List ℕ → SoundBank
 setAt rate ps bytes = record { «sample_rate_hz» = rate; «effect_count» = length ps; len = length bytes }
 
 -- "With the bank set at its count, the search finds each entry written and payload lookup returns its bytes", at any rate that a bank may
--- have; an id that was not given is not found
+-- have and in either box; an id that was not given is not found
 pub record ReadBack (ps : List Part) (bytes : List ℕ) (rate : ℕ) : Type 0 where
   pub setting : bankOf rate (length ps) (length bytes) ≡ value (setAt rate ps bytes)
   pub known : (i : ℕ) → i < length ps → getD ps i noPart .entry .kind ≤ 5
   pub found : (i : ℕ) → i < length ps → let p = getD ps i noPart in foundGiven (S.Bank (setAt rate ps bytes)) bytes (idOf p) ≡ readAs (p .entry) (offsetOf ps p) (kindOf (p .entry .kind))
-  pub number : (i : ℕ) → i < length ps → let p = getD ps i noPart in payloadGiven (S.Bank (setAt rate ps bytes)) bytes (offsetOf ps p) (p .entry .len) ≡ passed
+  pub number : (parted : Bool) (i : ℕ) → i < length ps → let p = getD ps i noPart in payloadUnder parted (S.Bank (setAt rate ps bytes)) bytes (offsetOf ps p) (p .entry .len) ≡ passed
   pub payload : (i : ℕ) → i < length ps → let p = getD ps i noPart in payloadPart (S.Bank (setAt rate ps bytes)) bytes (offsetOf ps p) (p .entry .len) ≡ p .payload
   pub missing : (id : ℕ) → All (λ q. idOf q ≡ id → ⊥) ps → foundGiven (S.Bank (setAt rate ps bytes)) bytes id ≡ refused 8
 

@@ -1,4 +1,5 @@
 -- The engine takes play requests as the state of the present rules does, and demand 3 holds of it. Assumes nothing.
+use mathlib.Core.Bool.{false}
 use mathlib.Core.Path.{refl}
 use Rattle.marks.specs.Marks.{Valid}
 use Rattle.marks.specs.declared.Present.{Present}
@@ -12,13 +13,13 @@ use Rattle.engine.specs.declared.AudioEngine.{AudioEngine}
 
 -- so `requests` demand-3 and sound-accepted hold of it
 pub lawful : Lawful player
-lawful = by-rule player (record { tells = λ e bytes r. refl; leaves = λ e bytes r. refl })
+lawful = by-rule player (record { hands = λ e bytes r. refl; leaves = λ e bytes r. refl })
 
 -- the mixer's state out of a state of the present rules
 abbrev pub taken : Present → AudioEngine
 taken p = boxed (p .mixer)
 
-pub follows : Follows present player taken
+pub follows : Follows (present false) player taken
 follows = record { mixer = λ p. refl; told = λ p bytes r. refl; next = λ p bytes r. refl }
 
 pub taken-valid : (p : Present) → Valid p → ValidEngine (taken p)

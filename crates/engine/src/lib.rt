@@ -184,7 +184,7 @@ impl AudioEngine {
     {
         let m = self.state;
         let bank = m.bank;
-        bank::payload_number(bank, bytes, offset, len)
+        bank::payload_number(bank, bytes, offset, len, false)
     }
 
     pub fn payload(self, bytes: &[u8], offset: u32, len: u32) -> &[u8]
@@ -218,7 +218,7 @@ impl AudioEngine {
             adsr,
             priority,
         };
-        let p = play::play_request(m, bytes, request);
+        let p = play::play_request(m, bytes, request, false);
         let outcome = p.outcome;
         let state = p.mixer;
         EnginePlayed {
@@ -243,7 +243,7 @@ impl AudioEngine {
         ensures { λ r. ⌜ Made ValidEngineChanged (changedBox (faded (self .state) (now (bytes .entry)) «effect_id» «duration_ms» adsr)) r ⌝ }
     {
         let m = self.state;
-        let c = play::fades::crossfade_to(m, bytes, effect_id, duration_ms, adsr);
+        let c = play::fades::crossfade_to(m, bytes, effect_id, duration_ms, adsr, false);
         let outcome = c.outcome;
         let state = c.mixer;
         EngineChanged {

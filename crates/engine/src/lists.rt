@@ -21,7 +21,7 @@ impl AudioEngine {
         ensures { λ r. ⌜ PlaysEach self (now (bytes .entry)) (now (requests .entry)) (now (outcomes .entry)) r (now (outcomes .exit)) ⌝ }
     {
         let m = self.state;
-        let p = requests::play_each(Present::lifted(m), bytes, requests, outcomes);
+        let p = requests::play_each(Present::lifted(m), bytes, requests, outcomes, false);
         let state = p.mixer;
         AudioEngine { state }
     }

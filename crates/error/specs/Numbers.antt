@@ -19,3 +19,5 @@ numberOf E.BadSum = 11
 numberOf E.LowRate = 12
 numberOf E.BadEntries = 13
 numberOf E.ShortBuffer = 14
+numberOf E.BadOffset = 15
+numberOf E.BadLength = 16

@@ -3,6 +3,7 @@
 use Prim.Native.Nat.{ℕ}
 use mathlib.Core.Path.{_≡_}
 use mathlib.Core.Bool.{cond}
+use mathlib.Core.Option.{Option, none, some}
 use lib.Dec.{eqb}
 use Rattle.error.specs.declared.AudioError.{AudioError}
 use Rattle.error.specs.declared.AudioError.the-variants as E
@@ -26,6 +27,11 @@ abbrev pub numberIn : {A : Type 0} → Told A → ℕ
 numberIn (value x) = 0
 numberIn (refused n) = n
 
+-- the value alone, whatever number a refusal has
+abbrev pub valueIn : {A : Type 0} → Told A → Option A
+valueIn (value x) = some x
+valueIn (refused n) = none
+
 -- the refusal that has a number, as `numberOf` gives it
 abbrev pub refusal : ℕ → AudioError
 refusal n =
@@ -41,7 +47,9 @@ refusal n =
     (cond (eqb n 10) E.NotCarried
     (cond (eqb n 11) E.BadSum
     (cond (eqb n 12) E.LowRate
-    (cond (eqb n 13) E.BadEntries E.ShortBuffer))))))))))))
+    (cond (eqb n 13) E.BadEntries
+    (cond (eqb n 14) E.ShortBuffer
+    (cond (eqb n 15) E.BadOffset E.BadLength))))))))))))))
 
 -- what holds of a value; of a refusal there is nothing to hold
 abbrev pub ValidTold : {A : Type 0} → (A → Type 0) → Told A → Type 0

@@ -18,6 +18,8 @@ pub enum AudioError {
     LowRate,
     BadEntries,
     ShortBuffer,
+    BadOffset,
+    BadLength,
 }
 
 impl AudioError {
@@ -39,6 +41,8 @@ impl AudioError {
             AudioError::LowRate => 12,
             AudioError::BadEntries => 13,
             AudioError::ShortBuffer => 14,
+            AudioError::BadOffset => 15,
+            AudioError::BadLength => 16,
         }
     }
 }

@@ -10,19 +10,19 @@ use Rattle.output.specs.Duty.{duty}
 use Rattle.output.proofs.Laws.{duty-of-2}
 use mathlib.Core.Option.{orElse}
 use Rattle.allocate.specs.Allocation.{allocated}
-use Rattle.bank.specs.Banks.{bankOf, lentBank, payloadGiven}
+use Rattle.bank.specs.Banks.{bankOf, lentBank, payloadUnder}
 use Rattle.bank.specs.Entries.{fieldsAt, entryAt}
 use Rattle.bank.specs.Search.{halving, countFrom, decided, foundIn}
 use Rattle.engine.specs.Requests as E
 use Rattle.envelope.specs.Adsrs.{active}
 use Rattle.laws.specs.Lists.{only}
 use Rattle.mixer.specs.Mixers as M
-use Rattle.play.specs.Plays.{played}
+use Rattle.play.specs.Plays.{playedUnder}
 use Rattle.ranking.specs.Falling.{inserted, falling}
 use Rattle.requests.specs.Players.{playedAll}
 use Rattle.ranking.specs.Rule.{firstWhere, noneBelow, firstFree, firstLowest, lowestPriority}
 use Rattle.sounder.specs.Requests as S
-use Rattle.start.specs.Starts.{startedVoice, startAt, entryStart, requestStart}
+use Rattle.start.specs.Starts.{startedVoice, startAt, entryStartUnder, requestStartUnder}
 use Rattle.tier.specs.Kinds.{kindOf}
 use Rattle.tone.specs.Tones.{startedTone}
 use Rattle.voice.specs.Sources.{activeSource, startedEntry}
@@ -42,11 +42,11 @@ unfolding duty heldTo
 duties = refl
 
 handed : (handings S.player twoVoices fourRequests ≡ places) × (remaining S.player twoVoices fourRequests ≡ 7 ∷ 5 ∷ [])
-unfolding M.opened M.fresh M.banked bankOf played playedAll allocated lowestPriority firstFree firstLowest firstWhere noneBelow orElse requestStart foundIn lentBank decided halving countFrom entryAt fieldsAt kindOf entryStart payloadGiven startAt startedEntry startedVoice triggeredVoice silentVoice audible activeSource active triggered beganDecay startedTone only falling inserted
+unfolding M.opened M.fresh M.banked bankOf playedUnder playedAll allocated lowestPriority firstFree firstLowest firstWhere noneBelow orElse requestStartUnder foundIn lentBank decided halving countFrom entryAt fieldsAt kindOf entryStartUnder payloadUnder startAt startedEntry startedVoice triggeredVoice silentVoice audible activeSource active triggered beganDecay startedTone only falling inserted
 handed = (refl, refl)
 
 handed-of-01 : (handings E.player twoVoices-of-01 fourRequests ≡ places-of-01) × (remaining E.player twoVoices-of-01 fourRequests ≡ 7 ∷ 5 ∷ [])
-unfolding M.opened M.fresh M.banked bankOf played playedAll allocated lowestPriority firstFree firstLowest firstWhere noneBelow orElse requestStart foundIn lentBank decided halving countFrom entryAt fieldsAt kindOf entryStart payloadGiven startAt startedEntry startedVoice triggeredVoice silentVoice audible activeSource active triggered beganDecay startedTone only falling inserted
+unfolding M.opened M.fresh M.banked bankOf playedUnder playedAll allocated lowestPriority firstFree firstLowest firstWhere noneBelow orElse requestStartUnder foundIn lentBank decided halving countFrom entryAt fieldsAt kindOf entryStartUnder payloadUnder startAt startedEntry startedVoice triggeredVoice silentVoice audible activeSource active triggered beganDecay startedTone only falling inserted
 handed-of-01 = (refl, refl)
 
 pub holds : Examples

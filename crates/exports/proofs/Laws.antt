@@ -7,7 +7,7 @@ use native.Mathlib.Omega.{arith}
 use lib.Dec.{eqb, ltb, leb}
 use lib.ListN.{length}
 use Rattle.bank.proofs.Laws.{whole-within}
-use Rattle.bank.specs.Banks.{bankOf, lentBank, payloadGiven}
+use Rattle.bank.specs.Banks.{bankOf, lentBank, Fails, nowhere, atOffset, atLength, failsIn, payloadNumber, payloadUnder}
 use Rattle.bank.specs.Entries.{placeOf}
 use Rattle.bank.specs.declared.BankSet.the-variants as B
 use Rattle.bank.specs.declared.EffectEntry.{EffectEntry}
@@ -34,12 +34,17 @@ unfolding bankOf
 bank-numbered rate count len =
     numbered-of (ltb 65537 rate) (refused 2) _ (omega arith) (numbered-of (ltb len (placeOf count)) (refused 4) _ (omega arith) tt)
 
-payload-numbered : (b : SoundBank) (bytes : List ℕ) (offset len : ℕ) → Numbered (payloadGiven (B.Bank b) bytes offset len)
-unfolding payloadGiven lentBank
+payload-numbered : (b : SoundBank) (bytes : List ℕ) (offset len : ℕ) → Numbered (payloadUnder true (B.Bank b) bytes offset len)
+unfolding payloadUnder lentBank
 payload-numbered b bytes offset len =
     numbered-then (cond (eqb (length bytes) (b .len)) (value b) (refused 7)) _
     (numbered-of (eqb (length bytes) (b .len)) (value b) (refused 7) tt (omega arith))
-    (λ x. numbered-of (leb (offset + len) (length bytes)) passed (refused 4) tt (omega arith))
+    (λ x. fails-numbered (failsIn (length bytes) offset len))
+  where
+    fails-numbered : (f : Fails) → Numbered (payloadNumber true f)
+    fails-numbered nowhere = tt
+    fails-numbered atOffset = omega arith
+    fails-numbered atLength = omega arith
 
 is-passed : (t : Told (Unit {0})) → Numbered t → numberIn t ≡ 0 → t ≡ passed
 is-passed (value tt) h e = refl
@@ -50,9 +55,9 @@ module _ (bytes : List ℕ) (rate count : ℕ) where
   unfolding lookedUp
   inside offset len h = by-bank (bankOf rate count (length bytes)) h
     where
-      by-bank : (t : Told SoundBank) → andThen t (λ b. payloadGiven (B.Bank b) bytes offset len) ≡ passed → offset + len ≤ length bytes
+      by-bank : (t : Told SoundBank) → andThen t (λ b. payloadUnder true (B.Bank b) bytes offset len) ≡ passed → offset + len ≤ length bytes
       by-bank (refused n) h = let z : _≡_ {A = ℕ} 0 1 = cc in omega arith
-      by-bank (value b) h = whole-within (B.Bank b) bytes offset len h
+      by-bank (value b) h = whole-within true (B.Bank b) bytes offset len h
 
   looked-numbered : (offset len : ℕ) → Numbered (lookedUp bytes rate count offset len)
   unfolding lookedUp

@@ -1,8 +1,9 @@
 -- A bank that is set for one call alone: its search and its payloads. Assumes nothing.
 use Prim.Native.Nat.{ℕ}
+use mathlib.Core.Bool.{true}
 use mathlib.Core.List.{List, [], _∷_}
 use lib.ListN.{length}
-use Rattle.bank.specs.Banks.{bankOf, payloadGiven}
+use Rattle.bank.specs.Banks.{bankOf, payloadUnder}
 use Rattle.bank.specs.Search.{foundGiven}
 use Rattle.bank.specs.declared.BankSet.the-variants as B
 use Rattle.bank.specs.declared.EffectEntry.{EffectEntry}
@@ -29,10 +30,10 @@ entryCells e =
 abbrev pub entryTold : Told EffectEntry → Told (List ℕ)
 entryTold t = andThen t (λ e. value (entryCells e))
 
--- "Setting a bank", then "payload lookup"
+-- "Setting a bank", then "payload lookup" by the present rules
 unfoldable pub lookedUp : List ℕ → ℕ → ℕ → ℕ → ℕ → Told (Unit {0})
 lookedUp bytes rate count offset len =
-    andThen (bankOf rate count (length bytes)) (λ b. payloadGiven (B.Bank b) bytes offset len)
+    andThen (bankOf rate count (length bytes)) (λ b. payloadUnder true (B.Bank b) bytes offset len)
 
 -- "the very part of the lent bank from its offset, of its length": the two numbers that say which
 abbrev pub partTold : ℕ → ℕ → Told (Unit {0}) → Told (List ℕ)

@@ -69,7 +69,7 @@ fn look_up(
 {
     match SoundBank::new(sample_rate_hz, effect_count, bytes.len()) {
         BankRead::Refused(e) => PayloadRead::Refused(e),
-        BankRead::Bank(b) => bank::payload_number(BankSet::Bank(b), bytes, offset, len),
+        BankRead::Bank(b) => bank::payload_number(BankSet::Bank(b), bytes, offset, len, true),
     }
 }
 

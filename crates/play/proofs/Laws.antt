@@ -2,20 +2,26 @@
 use Prim.Native.Nat.{ℕ, zero, suc, _≤_, _<_}
 use native.Mathlib.Omega.{arith}
 use mathlib.Core.Path.{_≡_, refl}
-use mathlib.Core.Bool.{cond}
-use borrow.Author.Tests.{eq-eqb, ne-eqb}
+use mathlib.Core.Bool.{Bool, cond}
+use mathlib.Core.List.{List}
+use borrow.Author.Tests.{eq-eqb, ne-eqb, le-ltb}
 use lib.Dec.{eqb}
 use lib.ListN.{length, getD, set, length-set}
 use lib.Seq.{drop-set-lt}
 use Rattle.laws.proofs.Lists.{getD-any, all-set}
+use Rattle.bank.specs.Search.{foundGiven}
+use Rattle.bank.specs.declared.EffectEntry.{EffectEntry}
+use Rattle.envelope.specs.declared.AdsrSpec.{AdsrSpec}
+use Rattle.error.specs.Told.{value, refused}
+use Rattle.start.specs.Starts.{entryStartUnder}
 use Rattle.voice.specs.Voices as S
 use Rattle.voice.specs.declared.Voice.{Voice}
 use Rattle.voice.proofs.Laws as L
 use Rattle.mixer.specs.declared.Mixer.{Mixer}
-use Rattle.mixer.specs.Mixers.{Valid, withVoices}
+use Rattle.mixer.specs.Mixers.{Valid, withVoices, unchanged}
 use Rattle.mixer.proofs.Laws.{valid-voice, valid-stored}
 use Rattle.play.specs.Plays.{firstSounding}
-use Rattle.play.specs.Fades.{firstReleased, begun}
+use Rattle.play.specs.Fades.{firstReleased, begun, fadedBy, fadedUnder}
 
 pub valid-first : {m : Mixer} (v : Voice) → Valid m → S.Valid v → Valid (firstSounding m v)
 unfolding firstSounding
@@ -65,3 +71,14 @@ valid-begun {m} v step h k l g =
       mapper = h .mapper;
       fade = λ e. (k, l);
     }
+
+-- a fade that is turned down before its entry start has changed nothing; one that is turned down there has released voice 0, and no more
+module _ (parted : Bool) (m : Mixer) (bytes : List ℕ) (id ms : ℕ) (adsr : AdsrSpec) (n : ℕ) (two : 2 ≤ m .n) where
+  pub refused-before : foundGiven (m .bank) bytes id ≡ refused n → fadedUnder parted m bytes id ms adsr ≡ unchanged m n
+  unfolding fadedUnder
+  refused-before e = rw (le-ltb (m .n) 2 two, e)
+
+  pub refused-there : (entry : EffectEntry) → foundGiven (m .bank) bytes id ≡ value entry → entryStartUnder parted (m .bank) bytes entry adsr 128 ≡ refused n
+      → fadedUnder parted m bytes id ms adsr ≡ unchanged (firstReleased m) n
+  unfolding fadedUnder fadedBy
+  refused-there entry e s = rw (le-ltb (m .n) 2 two, e, s)

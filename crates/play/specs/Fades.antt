@@ -1,6 +1,6 @@
 -- Beginning a fade. Assumes nothing.
 use Prim.Native.Nat.{ℕ}
-use mathlib.Core.Bool.{true, cond}
+use mathlib.Core.Bool.{Bool, true, false, cond}
 use mathlib.Core.List.{List}
 use lib.Dec.{ltb}
 use lib.ListN.{getD, set}
@@ -9,7 +9,7 @@ use Rattle.bank.specs.declared.EffectEntry.{EffectEntry}
 use Rattle.config.specs.Config.{fadeStep}
 use Rattle.envelope.specs.declared.AdsrSpec.{AdsrSpec}
 use Rattle.error.specs.Told.{Told, value, refused}
-use Rattle.start.specs.Starts.{entryStart}
+use Rattle.start.specs.Starts.{entryStartUnder}
 use Rattle.voice.specs.Voices.{silentVoice, releasedVoice}
 use Rattle.voice.specs.declared.Voice.{Voice}
 use Rattle.mixer.specs.Mixers.{withVoices, unchanged}
@@ -41,11 +41,16 @@ unfoldable pub fadedBy : Mixer → ℕ → Told Voice → Changed
 fadedBy m ms (refused n) = unchanged m n
 fadedBy m ms (value v) = record { outcome = O.Done; mixer = begun m v (fadeStep ms (m .config .«sample_rate_hz»)) }
 
--- "it releases voice 0 before its entry start, and 4 or 10 given there leaves that release standing"
-abbrev pub fadedTo : Mixer → List ℕ → ℕ → AdsrSpec → Told EffectEntry → Changed
-fadedTo m bytes ms adsr (refused n) = unchanged m n
-fadedTo m bytes ms adsr (value entry) = fadedBy (firstReleased m) ms (entryStart (m .bank) bytes entry adsr 128)
+-- "it releases voice 0 before its entry start, and 4 or 10 given there leaves that release standing"; document 02: "The release of voice 0 by a
+-- fade now goes with these", 15 and 16
+abbrev pub fadedTo : Bool → Mixer → List ℕ → ℕ → AdsrSpec → Told EffectEntry → Changed
+fadedTo parted m bytes ms adsr (refused n) = unchanged m n
+fadedTo parted m bytes ms adsr (value entry) = fadedBy (firstReleased m) ms (entryStartUnder parted (m .bank) bytes entry adsr 128)
 
 -- "Fade | N below 2 | 5 `VoiceBusy`", then bank, entry search and entry start
-unfoldable pub faded : Mixer → List ℕ → ℕ → ℕ → AdsrSpec → Changed
-faded m bytes id ms adsr = cond (ltb (m .n) 2) (unchanged m 5) (fadedTo m bytes ms adsr (foundGiven (m .bank) bytes id))
+unfoldable pub fadedUnder : Bool → Mixer → List ℕ → ℕ → ℕ → AdsrSpec → Changed
+fadedUnder parted m bytes id ms adsr = cond (ltb (m .n) 2) (unchanged m 5) (fadedTo parted m bytes ms adsr (foundGiven (m .bank) bytes id))
+
+-- by document 01
+abbrev pub faded : Mixer → List ℕ → ℕ → ℕ → AdsrSpec → Changed
+faded m bytes id ms adsr = fadedUnder false m bytes id ms adsr

@@ -1,13 +1,13 @@
 -- Play requests, tone and PolyBLEP starts. Assumes nothing.
 use Prim.Native.Nat.{ℕ}
-use mathlib.Core.Bool.{cond}
+use mathlib.Core.Bool.{Bool, false, cond}
 use mathlib.Core.List.{List}
 use lib.Dec.{eqb}
 use lib.ListN.{set}
 use Rattle.error.specs.Numbers.{numberOf}
 use Rattle.error.specs.Told.{Told, value, refused, andThen, refusal}
 use Rattle.polyblep.specs.declared.PolyBlepWaveform.{PolyBlepWaveform}
-use Rattle.start.specs.Starts.{requestStart, toneVoice, polyBlepVoice}
+use Rattle.start.specs.Starts.{requestStartUnder, toneVoice, polyBlepVoice}
 use Rattle.start.specs.declared.Request.{Request}
 use Rattle.tone.specs.declared.Waveform.{Waveform}
 use Rattle.voice.specs.Voices as W
@@ -33,7 +33,7 @@ toldPlay (P.Voice i) = value i
 toldPlay (P.Refused e) = refused (numberOf e)
 
 -- The place and the voice that a request gets. A play request passes its places in the table's order: allocation (5), then all that
--- `requestStart` may refuse.
+-- `requestStartUnder` may refuse.
 abbrev pub placedBy : Told ℕ → Told Voice → Told (ℕ × Voice)
 placedBy place start = andThen place (λ i. andThen start (λ v. value (i, v)))
 
@@ -48,8 +48,12 @@ abbrev pub playedAt : Mixer → Told (ℕ × Voice) → Played
 playedAt m (refused n) = notPlayed m n
 playedAt m (value p) = record { outcome = P.Voice (p .0); mixer = withVoices m (set (m .voices) (p .0) (p .1)) }
 
-unfoldable pub played : Mixer → List ℕ → Request → Played
-played m bytes r = playedAt m (placedBy (allocated m (r .priority)) (requestStart (m .bank) bytes r))
+unfoldable pub playedUnder : Bool → Mixer → List ℕ → Request → Played
+playedUnder parted m bytes r = playedAt m (placedBy (allocated m (r .priority)) (requestStartUnder parted (m .bank) bytes r))
+
+-- by document 01
+abbrev pub played : Mixer → List ℕ → Request → Played
+played m bytes r = playedUnder false m bytes r
 
 -- "with N = 0 they do nothing, else voice 0 becomes" v
 unfoldable pub firstSounding : Mixer → Voice → Mixer

@@ -6,7 +6,7 @@ ghost use Rattle.error.specs.Told.{ValidTold};
 ghost use Rattle.start.specs.Starts.{toldStart};
 ghost use Rattle.voice.specs.Voices as S;
 ghost use Rattle.mixer.specs.Mixers.{Valid, ValidChanged};
-ghost use Rattle.play.specs.Fades.{firstReleased, begun, fadedBy, faded};
+ghost use Rattle.play.specs.Fades.{firstReleased, begun, fadedBy, fadedUnder};
 use bank::EntryRead;
 use envelope::AdsrSpec;
 use error::AudioError;
@@ -69,9 +69,10 @@ pub fn crossfade_to(
     effect_id: u16,
     duration_ms: u16,
     adsr: AdsrSpec,
+    parted: bool,
 ) -> Changed
     requires { ⌜ Valid m ⌝ }
-    ensures { λ r. ⌜ Made ValidChanged (faded m (now (bytes .entry)) «effect_id» «duration_ms» adsr) r ⌝ }
+    ensures { λ r. ⌜ Made ValidChanged (fadedUnder parted m (now (bytes .entry)) «effect_id» «duration_ms» adsr) r ⌝ }
 {
     if m.n < 2 {
         return Changed {
@@ -87,7 +88,7 @@ pub fn crossfade_to(
         },
         EntryRead::Entry(entry) => {
             let released = first_released(m);
-            let started = start::start_entry(bank, bytes, entry, adsr, 128);
+            let started = start::start_entry(bank, bytes, entry, adsr, 128, parted);
             faded_by(released, duration_ms, started)
         }
     }

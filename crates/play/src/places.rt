@@ -3,7 +3,7 @@ ghost use lib.ListN.{take};
 ghost use Rattle.error.specs.Told.{Answered};
 ghost use Rattle.allocate.specs.Ranked.{boundOf, lowestRank};
 ghost use Rattle.bank.specs.Banks.{ValidBank};
-ghost use Rattle.start.specs.Starts.{requestStart};
+ghost use Rattle.start.specs.Starts.{requestStartUnder};
 ghost use Rattle.play.specs.Plays.{ValidPlaced, placedBy, toldPlaced};
 use allocate::Allocated;
 use bank::BankSet;
@@ -26,14 +26,15 @@ pub fn place(
     bank: BankSet,
     bytes: &[u8],
     request: Request,
+    parted: bool,
 ) -> Placed
     requires { ⌜ ValidBank bank ⌝ }
-    ensures { λ r. ⌜ Answered toldPlaced ValidPlaced (placedBy (lowestRank (take n (now (ranks .entry))) (boundOf policy (request .priority))) (requestStart bank (now (bytes .entry)) request)) r ⌝ }
+    ensures { λ r. ⌜ Answered toldPlaced ValidPlaced (placedBy (lowestRank (take n (now (ranks .entry))) (boundOf policy (request .priority))) (requestStartUnder parted bank (now (bytes .entry)) request)) r ⌝ }
 {
     let bound = allocate::ranks::bound(policy, request.priority);
     match allocate::ranks::lowest(ranks, n, bound) {
         Allocated::None => Placed::Refused(AudioError::VoiceBusy),
-        Allocated::Voice(i) => match start::start_request(bank, bytes, request) {
+        Allocated::Voice(i) => match start::start_request(bank, bytes, request, parted) {
             EntryStart::Refused(e) => Placed::Refused(e),
             EntryStart::Voice(v) => Placed::Voice(i, v),
         },

@@ -20,9 +20,13 @@ use Rattle.replay_box.specs.Boxes.{mixerOf}
 use Rattle.replay_box.specs.declared.OpenBox.{OpenBox}
 use Rattle.render_account.specs.Account as T
 
+added-within : (n : ℕ) → length (T.addedText n) ≤ 55
+unfolding T.addedText
+added-within n = search (words-within, leb-true) depth 9
+
 why-within : (n : ℕ) → length (T.whyText n) ≤ 55
 unfolding T.whyText
-why-within n = search (words-within, leb-true) depth 16
+why-within n = search (words-within, added-within, leb-true) depth 13
 
 end-within : (n : ℕ) → length (T.endText n) ≤ 89
 unfolding T.endText

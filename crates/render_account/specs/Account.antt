@@ -15,6 +15,16 @@ use Rattle.mixer.specs.declared.VoiceRead.the-variants as R
 use Rattle.replay_box.specs.Boxes.{mixerOf}
 use Rattle.replay_box.specs.declared.OpenBox.{OpenBox}
 
+-- "Numbers that requests add" (document 02), in words
+unfoldable pub addedText : ℕ → List ℕ
+addedText n =
+    cond (eqb n 12) (words "a rate below 20 Hz")
+    (cond (eqb n 13) (words "the entries do not make a bank")
+    (cond (eqb n 14) (words "the buffer is too short")
+    (cond (eqb n 15) (words "its offset is past the end of the bank")
+    (cond (eqb n 16) (words "it runs past the end of the bank")
+    (words "a number without words")))))
+
 -- document 01's numbers, in words
 unfoldable pub whyText : ℕ → List ℕ
 whyText n =
@@ -29,10 +39,7 @@ whyText n =
     (cond (eqb n 9) (words "an entry is of no known kind")
     (cond (eqb n 10) (words "the entry is of a kind that is not carried")
     (cond (eqb n 11) (words "a sum outside the limiter's range")
-    (cond (eqb n 12) (words "a rate below 20 Hz")
-    (cond (eqb n 13) (words "the entries do not make a bank")
-    (cond (eqb n 14) (words "the buffer is too short")
-    (words "a number without words"))))))))))))))
+    (addedText n)))))))))))
 
 -- the end of a line: nothing more where a call was accepted
 unfoldable pub endText : ℕ → List ℕ

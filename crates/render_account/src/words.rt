@@ -11,6 +11,20 @@ use render_texts::say;
 use render_texts::tenths;
 use replay_box::OpenBox;
 
+// Numbers that document 02's requests add, in words.
+fn why_added(t: Text, number: u8) -> Text
+    ensures { λ r. ⌜ Adds t (T.addedText number) r ⌝ }
+{
+    match number {
+        12 => say(t, b"a rate below 20 Hz"),
+        13 => say(t, b"the entries do not make a bank"),
+        14 => say(t, b"the buffer is too short"),
+        15 => say(t, b"its offset is past the end of the bank"),
+        16 => say(t, b"it runs past the end of the bank"),
+        _ => say(t, b"a number without words"),
+    }
+}
+
 // Why a call is turned down: document 01's numbers in words.
 fn why(t: Text, number: u8) -> Text
     ensures { λ r. ⌜ Adds t (T.whyText number) r ⌝ }
@@ -30,10 +44,7 @@ fn why(t: Text, number: u8) -> Text
         9 => say(t, b"an entry is of no known kind"),
         10 => say(t, b"the entry is of a kind that is not carried"),
         11 => say(t, b"a sum outside the limiter's range"),
-        12 => say(t, b"a rate below 20 Hz"),
-        13 => say(t, b"the entries do not make a bank"),
-        14 => say(t, b"the buffer is too short"),
-        _ => say(t, b"a number without words"),
+        _ => why_added(t, number),
     }
 }
 

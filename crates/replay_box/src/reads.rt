@@ -1,7 +1,7 @@
 // What a script asks of the box that it has open.
 ghost use mathlib.Core.Path.{_≡_};
 ghost use Rattle.allocate.specs.Allocation.{allocated, toldPlace};
-ghost use Rattle.bank.specs.Banks.{payloadGiven, toldPayload, payloadPart};
+ghost use Rattle.bank.specs.Banks.{payloadUnder, toldPayload, payloadPart};
 ghost use Rattle.bank.specs.Entries.{toldEntry};
 ghost use Rattle.bank.specs.Search.{foundGiven};
 ghost use Rattle.frame.specs.Lasting.{framesLeft};
@@ -127,7 +127,7 @@ impl OpenBox {
     }
 
     pub fn payload_number(self, bytes: &[u8], offset: u32, len: u32) -> PayloadRead
-        ensures { λ r. ⌜ toldPayload r ≡ payloadGiven (mixerOf self .bank) (now (bytes .entry)) offset len ⌝ }
+        ensures { λ r. ⌜ toldPayload r ≡ payloadUnder (self .present) (mixerOf self .bank) (now (bytes .entry)) offset len ⌝ }
     {
         if self.present {
             let s = self.sounder;

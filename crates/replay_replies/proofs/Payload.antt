@@ -13,7 +13,7 @@ use Rattle.voice.specs.declared.Voice.{Voice}
 use Rattle.mixer.specs.Mixers.{Valid, voiceRead}
 use Rattle.mixer.specs.declared.Mixer.{Mixer}
 use Rattle.mixer.specs.declared.VoiceRead.the-variants as I
-use Rattle.bank.specs.Banks.{payloadGiven, partOf, payloadPart}
+use Rattle.bank.specs.Banks.{payloadUnder, payloadGiven, partOf, payloadPart}
 use Rattle.bank.specs.declared.BankSet.{BankSet}
 use Rattle.error.specs.Told.{Told, value, refused, numberIn}
 use Rattle.hex.specs.Hex.{wideAt, longAt, Wrote}
@@ -28,9 +28,9 @@ part-short bank bytes offset len = by (payloadGiven bank bytes offset len)
     by (value _) = simp length-take (omega arith)
     by (refused n) = omega arith
 
-pub payload-laid : (bank : BankSet) (l bytes : List ℕ) {part before after : List ℕ} {offset len number next : ℕ} {told : Told (Unit {0})} → offset ≡ longAt l 1 → len ≡ wideAt l 5 → told ≡ payloadGiven bank bytes offset len → number ≡ numberIn told → part ≡ payloadPart bank bytes offset len → Wrote before 0 (numberedText 2 number byteText part) after next → Wrote before 0 (payloadText bank l bytes) after next
+pub payload-laid : (parted : Bool) (bank : BankSet) (l bytes : List ℕ) {part before after : List ℕ} {offset len number next : ℕ} {told : Told (Unit {0})} → offset ≡ longAt l 1 → len ≡ wideAt l 5 → told ≡ payloadUnder parted bank bytes offset len → number ≡ numberIn told → part ≡ payloadPart bank bytes offset len → Wrote before 0 (numberedText 2 number byteText part) after next → Wrote before 0 (payloadText parted bank l bytes) after next
 unfolding payloadText
-payload-laid bank l bytes o k r n p w = rw (← o, ← k) (rw (n, r, p) at w)
+payload-laid parted bank l bytes o k r n p w = rw (← o, ← k) (rw (n, r, p) at w)
 
 -- a voice that is read is one of the box's
 pub read-valid : (m : Mixer) (i : ℕ) {v : Voice} → Valid m → voiceRead m i ≡ I.Voice v → S.Valid v

@@ -1,19 +1,21 @@
 -- The text of each reply. Assumes nothing.
 use Prim.Native.Nat.{ℕ}
+use mathlib.Core.Bool.{Bool}
 use mathlib.Core.List.{List, [], _++_}
 use Rattle.error.specs.Told.{numberIn}
 use Rattle.tier.specs.Kinds.{byteOf}
-use Rattle.bank.specs.Banks.{payloadGiven, payloadPart}
+use Rattle.bank.specs.Banks.{payloadUnder, payloadPart}
 use Rattle.bank.specs.declared.BankSet.{BankSet}
 use Rattle.bank.specs.declared.EffectEntry.{EffectEntry}
 use Rattle.hex.specs.Hex.{wideAt, longAt, hexOf, newline}
 use Rattle.replay_cells.specs.Cells.{byteText, numberedText}
-use Rattle.mixer.specs.declared.Mixer.{Mixer}
 use Rattle.mixer.specs.Mixers.{voiceRead}
 use Rattle.mixer.specs.declared.VoiceRead.{VoiceRead}
 use Rattle.mixer.specs.declared.VoiceRead.the-variants as I
 use Rattle.config.specs.declared.AudioConfig.{AudioConfig}
 use Rattle.replay_dump.specs.Dumps.{policyNumber, modeNumber, voiceLine, dumpText}
+use Rattle.replay_box.specs.Boxes.{mixerOf}
+use Rattle.replay_box.specs.declared.OpenBox.{OpenBox}
 use Rattle.replay_calls.specs.declared.Reply.{Reply}
 use Rattle.replay_calls.specs.declared.Reply.the-variants as R
 
@@ -35,9 +37,9 @@ entryText e =
     ++ newline
 
 -- "offset (4), length (2) | number, then the part's bytes"
-unfoldable pub payloadText : BankSet → List ℕ → List ℕ → List ℕ
-payloadText bank l bytes =
-    numberedText 2 (numberIn (payloadGiven bank bytes (longAt l 1) (wideAt l 5)))
+unfoldable pub payloadText : Bool → BankSet → List ℕ → List ℕ → List ℕ
+payloadText parted bank l bytes =
+    numberedText 2 (numberIn (payloadUnder parted bank bytes (longAt l 1) (wideAt l 5)))
     byteText
     (payloadPart bank bytes (longAt l 1) (wideAt l 5))
 
@@ -64,16 +66,16 @@ voiceText (I.Voice v) = voiceLine v
 voiceText I.None = newline
 
 -- "Each record that prints prints one line, unless said otherwise, its parts without a space between."
-abbrev pub replyText : Reply → List ℕ → List ℕ → Mixer → List ℕ
-replyText R.Bad l bytes m = badText
-replyText R.Nothing l bytes m = []
-replyText (R.Number n) l bytes m = hexOf 2 n ++ newline
-replyText (R.Two a b) l bytes m = twoText a b
-replyText (R.Wide n) l bytes m = hexOf 4 n ++ newline
-replyText (R.WideTwo a b) l bytes m = wideTwoText a b
-replyText (R.Entry e) l bytes m = entryText e
-replyText R.Payload l bytes m = payloadText (m .bank) l bytes
-replyText R.Dump l bytes m = dumpText m
-replyText R.Policy l bytes m = hexOf 2 (policyNumber (m .«stealing_policy»)) ++ newline
-replyText R.Configuration l bytes m = configText (m .config)
-replyText (R.Voice i) l bytes m = voiceText (voiceRead m i)
+abbrev pub replyText : Reply → List ℕ → List ℕ → OpenBox → List ℕ
+replyText R.Bad l bytes b = badText
+replyText R.Nothing l bytes b = []
+replyText (R.Number n) l bytes b = hexOf 2 n ++ newline
+replyText (R.Two x y) l bytes b = twoText x y
+replyText (R.Wide n) l bytes b = hexOf 4 n ++ newline
+replyText (R.WideTwo x y) l bytes b = wideTwoText x y
+replyText (R.Entry e) l bytes b = entryText e
+replyText R.Payload l bytes b = payloadText (b .present) (mixerOf b .bank) l bytes
+replyText R.Dump l bytes b = dumpText (mixerOf b)
+replyText R.Policy l bytes b = hexOf 2 (policyNumber (mixerOf b .«stealing_policy»)) ++ newline
+replyText R.Configuration l bytes b = configText (mixerOf b .config)
+replyText (R.Voice i) l bytes b = voiceText (voiceRead (mixerOf b) i)

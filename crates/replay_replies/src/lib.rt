@@ -90,7 +90,7 @@ fn payload_number(p: PayloadRead) -> u64
 
 // A part of the bank is of at most 65,535 bytes, since its length has two.
 fn put_payload(l: &[u8], bytes: &[u8], e: OpenBox, out: &mut [u8; 262144]) -> usize
-    ensures { λ r. ⌜ Wrote (now (out .entry)) 0 (payloadText (mixerOf e .bank) (now (l .entry)) (now (bytes .entry))) (now (out .exit)) r ⌝ }
+    ensures { λ r. ⌜ Wrote (now (out .entry)) 0 (payloadText (e .present) (mixerOf e .bank) (now (l .entry)) (now (bytes .entry))) (now (out .exit)) r ⌝ }
 {
     let offset = long_at(l, 1);
     let len = wide_at(l, 5) as u32;
@@ -102,7 +102,7 @@ fn put_payload(l: &[u8], bytes: &[u8], e: OpenBox, out: &mut [u8; 262144]) -> us
 
 pub fn put_reply(reply: Reply, l: &[u8], bytes: &[u8], e: OpenBox, out: &mut [u8; 262144]) -> usize
     requires { ⌜ ValidBox e ⌝ }
-    ensures { λ r. ⌜ Wrote (now (out .entry)) 0 (replyText reply (now (l .entry)) (now (bytes .entry)) (mixerOf e)) (now (out .exit)) r ⌝ }
+    ensures { λ r. ⌜ Wrote (now (out .entry)) 0 (replyText reply (now (l .entry)) (now (bytes .entry)) e) (now (out .exit)) r ⌝ }
 {
     match reply {
         Reply::Bad => put_line(out, 0xffff, 4),

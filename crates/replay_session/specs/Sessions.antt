@@ -14,7 +14,7 @@ use Rattle.mixer.specs.declared.VoiceStealingPolicy.{VoiceStealingPolicy}
 use Rattle.mixer.specs.declared.VoiceStealingPolicy.the-variants as P
 use Rattle.hex.specs.Hex.{allDigits, byteAt, wideAt, longAt, hexOf, newline, Wrote}
 use Rattle.replay_fields.specs.Read.{modeOf}
-use Rattle.replay_box.specs.Boxes.{ValidBox, mixerOf, noBox, opened}
+use Rattle.replay_box.specs.Boxes.{ValidBox, noBox, opened}
 use Rattle.replay_box.specs.declared.OpenBox.{OpenBox}
 use Rattle.replay_calls.specs.Calls.{sizedAs, called}
 use Rattle.replay_calls.specs.declared.Called.{Called}
@@ -112,7 +112,7 @@ goesOn (R.Voice i) = true
 abbrev pub calledAnswer : Session → List ℕ → List ℕ → Called → Answer
 calledAnswer s bytes l c =
     record {
-      text = replyText (c .reply) l bytes (mixerOf (c .held));
+      text = replyText (c .reply) l bytes (c .held);
       more = goesOn (c .reply);
       session = record { «is_open» = s .«is_open»; lent = s .lent; held = c .held };
     }

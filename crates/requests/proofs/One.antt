@@ -2,7 +2,7 @@
 use Prim.Native.Nat.{ℕ, _<_}
 use native.Mathlib.Omega.{arith}
 use mathlib.Core.Path.{_≡_, refl}
-use mathlib.Core.Bool.{true, cond}
+use mathlib.Core.Bool.{true, false, cond}
 use mathlib.Core.List.{List}
 use mathlib.Core.Option.{Option, none, some}
 use lib.ListN.{length-take}
@@ -13,7 +13,7 @@ use Rattle.bank.specs.declared.BankSet.{BankSet}
 use Rattle.laws.proofs.Bools.{never}
 use Rattle.mixer.specs.Mixers.{voicesOf, withVoices}
 use Rattle.mixer.specs.declared.Mixer.{Mixer}
-use Rattle.play.specs.Plays.{placedBy, toldPlay, playedAt, played}
+use Rattle.play.specs.Plays.{placedBy, toldPlay, playedAt, playedUnder, played}
 use Rattle.ranking.specs.Box as B
 use Rattle.ranking.specs.Demand as D
 use Rattle.ranking.specs.Demand.{Allowed, free, taken}
@@ -39,7 +39,7 @@ sounds (refused r) p h e = never e
 pub sounding : (bank : BankSet) (bytes : List ℕ) (r : Request) → soundRequest bank bytes r ≡ true
     → (audible (voiceOr (requestStart bank bytes r)) ≡ true) × (voiceOr (requestStart bank bytes r) .priority ≡ r .priority)
 unfolding soundRequest
-sounding bank bytes r h = sounds (requestStart bank bytes r) (r .priority) (request-heard bank bytes r) h
+sounding bank bytes r h = sounds (requestStart bank bytes r) (r .priority) (request-heard false bank bytes r) h
 
 -- ---- by the voice that is chosen and the start that it asks for
 pub handed-by : (m : Mixer) (o : Option ℕ) (s : Told Voice) → placeGiven (toldPlay (playedAt m (placedBy (placeOf o) s) .outcome)) ≡ cond (starts s) o none
@@ -74,5 +74,5 @@ rest-by m (value i) (refused e) = refl
 
 module _ (m : Mixer) (bytes : List ℕ) (r : Request) where
   pub rest-one : played m bytes r .mixer ≡ withVoices m (played m bytes r .mixer .voices)
-  unfolding played
+  unfolding playedUnder
   rest-one = rest-by m (allocated m (r .priority)) (requestStart (m .bank) bytes r)

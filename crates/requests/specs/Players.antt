@@ -5,7 +5,7 @@ use mathlib.Core.Bool.{Bool, true, false, cond}
 use mathlib.Core.List.{List, [], _∷_, _++_, map, Perm}
 use mathlib.Core.Option.{Option, none, some, orElse}
 use lib.ListN.{take, getElem?}
-use Rattle.error.specs.Told.{Told, value, refused}
+use Rattle.error.specs.Told.{Told, value, valueIn}
 use Rattle.allocate.specs.Allocation.{priorityOf, placeOf}
 use Rattle.mixer.specs.Mixers.{voicesOf, withVoices}
 use Rattle.mixer.specs.declared.Mixer.{Mixer}
@@ -30,8 +30,7 @@ pub record Player (State : Type 0) : Type 0 where
 
 -- the voice that is told, or none for a refusal
 abbrev pub placeGiven : Told ℕ → Option ℕ
-placeGiven (value i) = some i
-placeGiven (refused n) = none
+placeGiven t = valueIn t
 
 abbrev pub isPlace : Option ℕ → Bool
 isPlace none = false
@@ -109,7 +108,7 @@ module _ {State : Type 0} (b : Player State) where
     pub hands : (s : State) (bytes : List ℕ) (r : Request) → handedOut s bytes r ≡ placeGiven (toldPlay (playedIn s bytes r (choice s (r .priority)) .outcome))
     pub leaves : (s : State) (bytes : List ℕ) (r : Request) → b .mixer (b .next s bytes r) ≡ playedIn s bytes r (choice s (r .priority)) .mixer
 
-  -- a box that hands out voices by document 01's rule
+  -- a box that hands out voices by document 01's rule, whichever numbers its refusals have
   pub record ByRule : Type 0 where
-    pub tells : (s : State) (bytes : List ℕ) (r : Request) → b .told s bytes r ≡ toldPlay (played (b .mixer s) bytes r .outcome)
+    pub hands : (s : State) (bytes : List ℕ) (r : Request) → handedOut s bytes r ≡ placeGiven (toldPlay (played (b .mixer s) bytes r .outcome))
     pub leaves : (s : State) (bytes : List ℕ) (r : Request) → b .mixer (b .next s bytes r) ≡ played (b .mixer s) bytes r .mixer

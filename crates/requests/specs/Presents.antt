@@ -1,11 +1,12 @@
 -- Play requests to the state of the present rules. Assumes nothing.
 use Prim.Native.Nat.{ℕ}
+use mathlib.Core.Bool.{Bool}
 use mathlib.Core.List.{List}
 use Rattle.error.specs.Told.{Told, value, refused}
 use Rattle.marks.specs.Marks.{Valid, startedMark, markedAt}
 use Rattle.marks.specs.declared.Marks.{Marks}
 use Rattle.marks.specs.declared.Present.{Present}
-use Rattle.play.specs.Plays.{played, toldPlay}
+use Rattle.play.specs.Plays.{playedUnder, toldPlay}
 use Rattle.play.specs.declared.Played.{Played}
 use Rattle.start.specs.declared.Request.{Request}
 use Rattle.requests.specs.Players.{Player}
@@ -24,13 +25,14 @@ playedBeside k p = record { mixer = p .mixer; marks = startedAt (toldPlay (p .ou
 abbrev pub ValidPresentPlayed : PresentPlayed → Type 0
 ValidPresentPlayed p = Valid (p .present)
 
-abbrev pub playedPresent : Present → List ℕ → Request → PresentPlayed
-playedPresent p bytes r = let q = played (p .mixer) bytes r in record { outcome = q .outcome; present = playedBeside (p .marks) q }
+abbrev pub playedPresent : Bool → Present → List ℕ → Request → PresentPlayed
+playedPresent parted p bytes r = let q = playedUnder parted (p .mixer) bytes r in record { outcome = q .outcome; present = playedBeside (p .marks) q }
 
-abbrev pub present : Player Present
-present =
+-- `parted`: with document 02's numbers of a payload that fails; else with document 01's
+abbrev pub present : Bool → Player Present
+present parted =
     record {
       mixer = λ p. p .mixer;
-      told = λ p bytes r. toldPlay (playedPresent p bytes r .outcome);
-      next = λ p bytes r. playedPresent p bytes r .present;
+      told = λ p bytes r. toldPlay (playedPresent parted p bytes r .outcome);
+      next = λ p bytes r. playedPresent parted p bytes r .present;
     }

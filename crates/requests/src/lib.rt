@@ -34,13 +34,13 @@ fn marked(marks: Marks, outcome: PlayOutcome) -> Marks
     }
 }
 
-pub fn play_request(p: Present, bytes: &[u8], request: Request) -> PresentPlayed
+pub fn play_request(p: Present, bytes: &[u8], request: Request, parted: bool) -> PresentPlayed
     requires { ⌜ Valid p ⌝ }
-    ensures { λ r. ⌜ Made ValidPresentPlayed (playedPresent p (now (bytes .entry)) request) r ⌝ }
+    ensures { λ r. ⌜ Made ValidPresentPlayed (playedPresent parted p (now (bytes .entry)) request) r ⌝ }
 {
     let m = p.mixer;
     let k = p.marks;
-    let played = play::play_request(m, bytes, request);
+    let played = play::play_request(m, bytes, request, parted);
     let outcome = played.outcome;
     let mixer = played.mixer;
     let marks = marked(k, outcome);
@@ -86,9 +86,15 @@ fn tell(outcomes: &mut [u16], i: usize, cell: u16)
 // Plays every request of the slice, one after another, and tells each one's outcome in a cell of its own, as far as there are cells: the voice
 // that it got, or 256 × its refusal's number and 255. Fewer than ten bytes at the slice's end are no request. Voices and their ranks stay in locals,
 // since a state handed over for each request would cost more in copies than the request.
-pub fn play_each(p: Present, bytes: &[u8], requests: &[u8], outcomes: &mut [u16]) -> Present
+pub fn play_each(
+    p: Present,
+    bytes: &[u8],
+    requests: &[u8],
+    outcomes: &mut [u16],
+    parted: bool,
+) -> Present
     requires { ⌜ Valid p ⌝ }
-    ensures { λ r. ⌜ PlaysEach present Valid p (now (bytes .entry)) (now (requests .entry)) (now (outcomes .entry)) r (now (outcomes .exit)) ⌝ }
+    ensures { λ r. ⌜ PlaysEach (present parted) Valid p (now (bytes .entry)) (now (requests .entry)) (now (outcomes .entry)) r (now (outcomes .exit)) ⌝ }
 {
     let count = requests.len() / 10;
     let mut mixer = p.mixer;
@@ -99,7 +105,7 @@ pub fn play_each(p: Present, bytes: &[u8], requests: &[u8], outcomes: &mut [u16]
         let request = request_at(requests, 10 * i);
         let bank = mixer.bank;
         let policy = mixer.stealing_policy;
-        match place(&ranks, mixer.n, policy, bank, bytes, request) {
+        match place(&ranks, mixer.n, policy, bank, bytes, request, parted) {
             Placed::Refused(e) => tell(outcomes, i, 256 * (e.number() as u16) + 255),
             Placed::Voice(k, v) => {
                 ranks[k] = rank(v);

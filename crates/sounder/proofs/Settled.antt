@@ -66,7 +66,13 @@ pub banked-settled : (p : Present) (rate count len : ℕ) → Valid p
 unfolding M.banked
 banked-settled p rate count len h = bank-settled p (bankOf rate count len) h
 
--- "A refusal changes nothing": 5 to 9, which come before voice 0 is released
-pub faded-unchanged : (p : Present) (bytes : List ℕ) (id ms : ℕ) (adsr : AdsrSpec) (n : ℕ) → Valid p → F.faded (p .mixer) bytes id ms adsr ≡ M.unchanged (p .mixer) n
+-- "A refusal changes nothing": 5 to 9, which come before voice 0 is released (`play` refused-before)
+pub faded-unchanged : (p : Present) (bytes : List ℕ) (id ms : ℕ) (adsr : AdsrSpec) (n : ℕ) → Valid p → F.fadedUnder true (p .mixer) bytes id ms adsr ≡ M.unchanged (p .mixer) n
     → faded p bytes id ms adsr ≡ changedBox (O.Refused (refusal n)) p
 faded-unchanged p bytes id ms adsr n h e = rw e (ap (changedBox (O.Refused (refusal n))) (h .quiet))
+
+-- 10, 15 and 16, which come at its entry start (`play` refused-there): voice 0 is released, and nothing stands beside it where it is inaudible then
+pub faded-released : (p : Present) (bytes : List ℕ) (id ms : ℕ) (adsr : AdsrSpec) (n : ℕ)
+    → F.fadedUnder true (p .mixer) bytes id ms adsr ≡ M.unchanged (F.firstReleased (p .mixer)) n
+    → faded p bytes id ms adsr ≡ changedBox (O.Refused (refusal n)) (settled (beside (F.firstReleased (p .mixer)) (p .marks)))
+faded-released p bytes id ms adsr n e = rw e

@@ -1,7 +1,7 @@
 -- Each call of the box does to its fade what document 01's does; so a fade takes its count of frames. Assumes nothing.
 use Prim.Native.Nat.{ℕ}
 use mathlib.Core.Path.{_≡_, refl}
-use mathlib.Core.Bool.{true}
+use mathlib.Core.Bool.{true, false}
 use mathlib.Core.List.{List, map}
 use lib.ListN.{replicate}
 use Rattle.envelope.specs.declared.AdsrSpec.{AdsrSpec}
@@ -11,6 +11,7 @@ use Rattle.frame.specs.Lasting.{framesLeft, SameFade, Step, frame, call, afterA
 use Rattle.laws.specs.Runs.{after}
 use Rattle.marks.specs.Marks.{settled}
 use Rattle.mixer.specs.Mixers.{toldOutcome}
+use Rattle.play.proofs.Parted.{same-play, same-fade, fade-accepted}
 use Rattle.start.specs.declared.Request.{Request}
 use Rattle.steps.specs.Steps.{Frame, mono, duty, stereo, Call, play, tone, polyBlep, bank, pan, masterGain, stop, fade, look, calledMixer, ByRule}
 use Rattle.steps.proofs.Calls.{same}
@@ -30,14 +31,14 @@ advances stereo s = stereo-fade (s .state .marks) (s .state .mixer)
 
 calls : (c : Call) (s : Sounder) → SameFade (called c s .state .mixer) (calledMixer c (s .state .mixer))
 unfolding settled
-calls (play bytes r) s = same _
+calls (play bytes r) s = rw (same-play true false (s .state .mixer) bytes r .mixer) (same _)
 calls (tone hz ms waveform) s = same _
 calls (polyBlep hz ms waveform) s = same _
 calls (bank rate count len) s = same _
 calls (pan i q) s = same _
 calls (masterGain gain) s = same _
 calls stop s = same _
-calls (fade bytes id ms adsr) s = same _
+calls (fade bytes id ms adsr) s = rw (same-fade true false (s .state .mixer) bytes id ms adsr .mixer) (same _)
 calls look s = same _
 
 by-rule : ByRule stepper
@@ -45,7 +46,7 @@ by-rule = record { advances = advances; calls = calls }
 
 -- ---- T-02
 pub fade-takes : (s : Sounder) (bytes : List ℕ) (id ms : ℕ) (adsr : AdsrSpec) → toldOutcome (faded (s .state) bytes id ms adsr .outcome) ≡ passed → FadeTakes s bytes id ms adsr
-fade-takes s bytes id ms adsr a = S.fade-takes stepper by-rule s bytes id ms adsr a
+fade-takes s bytes id ms adsr a = S.fade-takes stepper by-rule s bytes id ms adsr (fade-accepted true false (s .state .mixer) bytes id ms adsr a)
 
 -- of a fade under way, what is left of it
 pub fade-lasts : (s : Sounder) (ss : List (Step Frame Call)) → ValidSounder s → unbroken box ss s ≡ true → Lasts box (framesLeft (s .state .mixer)) s ss

@@ -58,18 +58,20 @@ banked p rate count len =
     let c = M.banked (p .mixer) rate count len in
     changedBox (c .outcome) (beside (c .mixer) (bankMarks (c .outcome) (p .marks)))
 
--- the voice that a request got was started; "A refusal changes nothing" (`requests`)
+-- The voice that a request got was started; "A refusal changes nothing" (`requests`). A payload that fails is refused with 15 or 16, document 02's
+-- numbers.
 abbrev pub played : Present → List ℕ → Request → SounderPlayed
-played p bytes r = let q = playedPresent p bytes r in playedBox (q .outcome) (q .present)
+played p bytes r = let q = playedPresent true p bytes r in playedBox (q .outcome) (q .present)
 
--- "A fade starts voice 1". Voice 0 was released and may be inaudible, also where the fade was refused at its entry start.
+-- "A fade starts voice 1". Voice 0 was released and may be inaudible, also where the fade was refused at its entry start, with 10, 15 or 16: "The
+-- release of voice 0 by a fade now goes with these."
 abbrev pub fadeMarks : Outcome → Marks → Marks
 fadeMarks O.Done k = markedAt 1 startedMark k
 fadeMarks (O.Refused e) k = k
 
 abbrev pub faded : Present → List ℕ → ℕ → ℕ → AdsrSpec → SounderChanged
 faded p bytes id ms adsr =
-    let c = F.faded (p .mixer) bytes id ms adsr in
+    let c = F.fadedUnder true (p .mixer) bytes id ms adsr in
     changedBox (c .outcome) (settled (beside (c .mixer) (fadeMarks (c .outcome) (p .marks))))
 
 -- Tone and PolyBLEP start voice 0; "with N = 0 they do nothing", and settling leaves nothing beside the silent place.

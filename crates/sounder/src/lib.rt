@@ -1,9 +1,10 @@
 // The box of the present rules: its open calls over the mixer's parts. Its state is private, so that each box comes from these calls.
 ghost use mathlib.Core.Path.{_≡_};
+ghost use mathlib.Core.Bool.{true};
 ghost use lib.ListN.{length};
 ghost use Rattle.laws.specs.Made.{Made};
 ghost use Rattle.allocate.specs.Allocation.{allocated, toldPlace};
-ghost use Rattle.bank.specs.Banks.{payloadGiven, toldPayload, payloadPart};
+ghost use Rattle.bank.specs.Banks.{payloadUnder, toldPayload, payloadPart};
 ghost use Rattle.bank.specs.Entries.{toldEntry};
 ghost use Rattle.bank.specs.Search.{foundGiven};
 ghost use Rattle.frame.specs.Lasting.{framesLeft};
@@ -200,11 +201,11 @@ impl Sounder {
     }
 
     pub fn payload_number(self, bytes: &[u8], offset: u32, len: u32) -> PayloadRead
-        ensures { λ r. ⌜ toldPayload r ≡ payloadGiven (self .state .mixer .bank) (now (bytes .entry)) offset len ⌝ }
+        ensures { λ r. ⌜ toldPayload r ≡ payloadUnder true (self .state .mixer .bank) (now (bytes .entry)) offset len ⌝ }
     {
         let m = self.state.mixer;
         let bank = m.bank;
-        bank::payload_number(bank, bytes, offset, len)
+        bank::payload_number(bank, bytes, offset, len, true)
     }
 
     pub fn payload(self, bytes: &[u8], offset: u32, len: u32) -> &[u8]

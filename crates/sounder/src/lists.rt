@@ -19,7 +19,7 @@ impl Sounder {
         requires { ⌜ ValidSounder self ⌝ }
         ensures { λ r. ⌜ PlaysEach self (now (bytes .entry)) (now (requests .entry)) (now (outcomes .entry)) r (now (outcomes .exit)) ⌝ }
     {
-        let state = requests::play_each(self.state, bytes, requests, outcomes);
+        let state = requests::play_each(self.state, bytes, requests, outcomes, true);
         Sounder { state }
     }
 }

@@ -46,7 +46,7 @@ impl Sounder {
             adsr,
             priority,
         };
-        let q = requests::play_request(self.state, bytes, request);
+        let q = requests::play_request(self.state, bytes, request, true);
         let outcome = q.outcome;
         let state = q.present;
         SounderPlayed {
@@ -73,7 +73,7 @@ impl Sounder {
     {
         let m = self.state.mixer;
         let old = self.state.marks;
-        let c = play::fades::crossfade_to(m, bytes, effect_id, duration_ms, adsr);
+        let c = play::fades::crossfade_to(m, bytes, effect_id, duration_ms, adsr, true);
         let outcome = c.outcome;
         let mixer = c.mixer;
         let marks = fade_marks(outcome, old);

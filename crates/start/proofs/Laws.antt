@@ -1,16 +1,18 @@
 -- What a start gives: a voice that is valid and audible, of the priority asked. Assumes nothing.
 use Prim.Native.Nat.{ℕ, _≤_}
-use mathlib.Core.Path.{_≡_}
-use mathlib.Core.Bool.{true}
+use mathlib.Core.Path.{_≡_, refl}
+use mathlib.Core.Bool.{Bool, true}
 use mathlib.Core.List.{List}
 use borrow.Author.Tests.{le-ltb}
-use Rattle.bank.specs.Banks.{payloadGiven}
+use Rattle.bank.specs.Banks.{payloadUnder}
 use Rattle.bank.specs.declared.BankSet.{BankSet}
 use Rattle.bank.specs.declared.BankSet.the-variants as B
 use Rattle.bank.specs.declared.SoundBank.{SoundBank}
 use Rattle.bank.specs.declared.EffectEntry.{EffectEntry}
 use Rattle.bank.specs.Search.{foundGiven}
-use Rattle.error.specs.Told.{Told, value, refused, andThen, passed, ValidTold}
+use Rattle.error.specs.Told.{Told, value, refused, andThen, passed, valueIn, ValidTold}
+use Rattle.error.proofs.Told.{then-value, start-value}
+use Rattle.bank.proofs.Payloads.{payload-value}
 use Rattle.envelope.specs.declared.AdsrSpec.{AdsrSpec}
 use Rattle.voice.specs.Sources.{ValidSource, startedEntry}
 use Rattle.voice.specs.Voices.{Valid, silentVoice, audible}
@@ -18,7 +20,7 @@ use Rattle.voice.specs.declared.Voice.{Voice}
 use Rattle.voice.specs.declared.source.VoiceSource.{VoiceSource}
 use Rattle.voice.proofs.Laws as L
 use Rattle.start.specs.declared.Request.{Request}
-use Rattle.start.specs.Starts.{atRate, startedVoice, startAt, entryStart, requestStart}
+use Rattle.start.specs.Starts.{atRate, startedVoice, startAt, entryStartUnder, requestStartUnder}
 
 -- the voice before its envelope is triggered
 pub valid-untriggered : (rate gain priority : ℕ) (source : VoiceSource) (v : Voice) → v ≡ silentVoice rate → rate ≤ 65537 → ValidSource source
@@ -36,13 +38,13 @@ valid-untriggered rate gain priority source v e h k =
     record { rate = s .rate; source = k; adsr = s .adsr }
 
 -- a start from a bank, by its payload
-module _ (bank : BankSet) (b : SoundBank) (bytes : List ℕ) (entry : EffectEntry) (adsr : AdsrSpec) (priority : ℕ) (h : bank ≡ B.Bank b) where
-  pub start-refused : (n : ℕ) → payloadGiven (B.Bank b) bytes (entry .offset) (entry .len) ≡ refused n → entryStart bank bytes entry adsr priority ≡ refused n
-  unfolding entryStart
+module _ (parted : Bool) (bank : BankSet) (b : SoundBank) (bytes : List ℕ) (entry : EffectEntry) (adsr : AdsrSpec) (priority : ℕ) (h : bank ≡ B.Bank b) where
+  pub start-refused : (n : ℕ) → payloadUnder parted (B.Bank b) bytes (entry .offset) (entry .len) ≡ refused n → entryStartUnder parted bank bytes entry adsr priority ≡ refused n
+  unfolding entryStartUnder
   start-refused n k = rw (h, k)
 
-  pub start-whole : payloadGiven (B.Bank b) bytes (entry .offset) (entry .len) ≡ passed → entryStart bank bytes entry adsr priority ≡ startAt (b .«sample_rate_hz») entry adsr priority
-  unfolding entryStart
+  pub start-whole : payloadUnder parted (B.Bank b) bytes (entry .offset) (entry .len) ≡ passed → entryStartUnder parted bank bytes entry adsr priority ≡ startAt (b .«sample_rate_hz») entry adsr priority
+  unfolding entryStartUnder
   start-whole k = rw (h, k)
 
 -- the voice, at a rate that an engine can have
@@ -68,13 +70,27 @@ at-heard rate entry adsr priority =
     then-heard priority (startedEntry (entry .kind) (entry .param0) (entry .param1) rate) _
     (λ source. voice-heard rate (entry .«default_gain_q8») priority source adsr)
 
-pub entry-heard : (bank : BankSet) (bytes : List ℕ) (entry : EffectEntry) (adsr : AdsrSpec) (priority : ℕ) → Heard priority (entryStart bank bytes entry adsr priority)
-unfolding entryStart
-entry-heard B.None bytes entry adsr priority = tt
-entry-heard (B.Bank b) bytes entry adsr priority =
-    then-heard priority (payloadGiven (B.Bank b) bytes (entry .offset) (entry .len)) _ (λ _. at-heard (b .«sample_rate_hz») entry adsr priority)
+pub entry-heard : (parted : Bool) (bank : BankSet) (bytes : List ℕ) (entry : EffectEntry) (adsr : AdsrSpec) (priority : ℕ) → Heard priority (entryStartUnder parted bank bytes entry adsr priority)
+unfolding entryStartUnder
+entry-heard parted B.None bytes entry adsr priority = tt
+entry-heard parted (B.Bank b) bytes entry adsr priority =
+    then-heard priority (payloadUnder parted (B.Bank b) bytes (entry .offset) (entry .len)) _ (λ _. at-heard (b .«sample_rate_hz») entry adsr priority)
 
-pub request-heard : (bank : BankSet) (bytes : List ℕ) (r : Request) → Heard (r .priority) (requestStart bank bytes r)
-unfolding requestStart
-request-heard bank bytes r =
-    then-heard (r .priority) (foundGiven bank bytes (r .id)) _ (λ entry. entry-heard bank bytes entry (r .adsr) (r .priority))
+pub request-heard : (parted : Bool) (bank : BankSet) (bytes : List ℕ) (r : Request) → Heard (r .priority) (requestStartUnder parted bank bytes r)
+unfolding requestStartUnder
+request-heard parted bank bytes r =
+    then-heard (r .priority) (foundGiven bank bytes (r .id)) _ (λ entry. entry-heard parted bank bytes entry (r .adsr) (r .priority))
+
+-- ---- the two rules of a payload's refusal differ in its number alone
+pub entry-value : (a b : Bool) (bank : BankSet) (bytes : List ℕ) (entry : EffectEntry) (adsr : AdsrSpec) (priority : ℕ)
+    → valueIn (entryStartUnder a bank bytes entry adsr priority) ≡ valueIn (entryStartUnder b bank bytes entry adsr priority)
+unfolding entryStartUnder
+entry-value a b B.None bytes entry adsr priority = refl
+entry-value a b (B.Bank k) bytes entry adsr priority =
+    start-value (payloadUnder a (B.Bank k) bytes (entry .offset) (entry .len)) (payloadUnder b (B.Bank k) bytes (entry .offset) (entry .len)) _
+    (payload-value (B.Bank k) bytes (entry .offset) (entry .len) a b)
+
+pub request-value : (a b : Bool) (bank : BankSet) (bytes : List ℕ) (r : Request)
+    → valueIn (requestStartUnder a bank bytes r) ≡ valueIn (requestStartUnder b bank bytes r)
+unfolding requestStartUnder
+request-value a b bank bytes r = then-value (foundGiven bank bytes (r .id)) _ _ (λ entry. entry-value a b bank bytes entry (r .adsr) (r .priority))

@@ -3,7 +3,7 @@ use Prim.Native.Nat.{ℕ}
 use mathlib.Core.Bool.{Bool, true, false, cond}
 use lib.Dec.{ltb}
 use mathlib.Core.List.{List}
-use Rattle.bank.specs.Banks.{payloadGiven}
+use Rattle.bank.specs.Banks.{payloadUnder}
 use Rattle.bank.specs.Search.{foundGiven}
 use Rattle.bank.specs.declared.BankSet.{BankSet}
 use Rattle.bank.specs.declared.BankSet.the-variants as B
@@ -44,16 +44,23 @@ startAt rate entry adsr priority =
     (λ source. value (startedVoice rate (entry .«default_gain_q8») priority source adsr))
 
 -- "An entry start puts in a silent voice at the bank's rate with the entry's gain, the request's priority and its envelope,
--- triggered." "offset + length exceeds the bank | 4" comes before 10.
-unfoldable pub entryStart : BankSet → List ℕ → EffectEntry → AdsrSpec → ℕ → Told Voice
-entryStart B.None bytes entry adsr priority = refused 6
-entryStart (B.Bank b) bytes entry adsr priority =
-    andThen (payloadGiven (B.Bank b) bytes (entry .offset) (entry .len)) (λ _. startAt (b .«sample_rate_hz») entry adsr priority)
+-- triggered." What its payload fails by, document 01's 4 or document 02's 15 and 16 (`parted`), comes before 10.
+unfoldable pub entryStartUnder : Bool → BankSet → List ℕ → EffectEntry → AdsrSpec → ℕ → Told Voice
+entryStartUnder parted B.None bytes entry adsr priority = refused 6
+entryStartUnder parted (B.Bank b) bytes entry adsr priority =
+    andThen (payloadUnder parted (B.Bank b) bytes (entry .offset) (entry .len)) (λ _. startAt (b .«sample_rate_hz») entry adsr priority)
 
 -- a play request's start: bank, entry search, entry start, in the table's order
-unfoldable pub requestStart : BankSet → List ℕ → Request → Told Voice
-requestStart bank bytes r =
-    andThen (foundGiven bank bytes (r .id)) (λ entry. entryStart bank bytes entry (r .adsr) (r .priority))
+unfoldable pub requestStartUnder : Bool → BankSet → List ℕ → Request → Told Voice
+requestStartUnder parted bank bytes r =
+    andThen (foundGiven bank bytes (r .id)) (λ entry. entryStartUnder parted bank bytes entry (r .adsr) (r .priority))
+
+-- by document 01
+abbrev pub entryStart : BankSet → List ℕ → EffectEntry → AdsrSpec → ℕ → Told Voice
+entryStart bank bytes entry adsr priority = entryStartUnder false bank bytes entry adsr priority
+
+abbrev pub requestStart : BankSet → List ℕ → Request → Told Voice
+requestStart bank bytes r = requestStartUnder false bank bytes r
 
 abbrev pub toldStart : EntryStart → Told Voice
 toldStart (S.Voice v) = value v

@@ -6,7 +6,7 @@ ghost use Rattle.error.specs.Told.{Answered};
 ghost use Rattle.bank.specs.Banks.{ValidBank};
 ghost use Rattle.voice.specs.Sources.{ValidSource};
 ghost use Rattle.voice.specs.Voices.{Valid};
-ghost use Rattle.start.specs.Starts.{startedVoice, startAt, entryStart, requestStart, toldStart, atRate, toneVoice, polyBlepVoice};
+ghost use Rattle.start.specs.Starts.{startedVoice, startAt, entryStartUnder, requestStartUnder, toldStart, atRate, toneVoice, polyBlepVoice};
 use bank::BankSet;
 use bank::EffectEntry;
 use bank::EntryRead;
@@ -71,29 +71,32 @@ pub fn start_entry(
     entry: EffectEntry,
     adsr: AdsrSpec,
     priority: u8,
+    parted: bool,
 ) -> EntryStart
     requires { ⌜ ValidBank bank ⌝ }
-    ensures { λ r. ⌜ Answered toldStart Valid (entryStart bank (now (bytes .entry)) entry adsr priority) r ⌝ }
+    ensures { λ r. ⌜ Answered toldStart Valid (entryStartUnder parted bank (now (bytes .entry)) entry adsr priority) r ⌝ }
 {
     match bank {
         BankSet::None => EntryStart::Refused(AudioError::NoBank),
-        BankSet::Bank(b) => match bank::payload_number(bank, bytes, entry.offset, entry.len) {
-            PayloadRead::Refused(e) => EntryStart::Refused(e),
-            PayloadRead::Whole => start_at(b.sample_rate_hz(), entry, adsr, priority),
-        },
+        BankSet::Bank(b) => {
+            match bank::payload_number(bank, bytes, entry.offset, entry.len, parted) {
+                PayloadRead::Refused(e) => EntryStart::Refused(e),
+                PayloadRead::Whole => start_at(b.sample_rate_hz(), entry, adsr, priority),
+            }
+        }
     }
 }
 
 // All that turns a play request down, but for a voice to put it in.
-pub fn start_request(bank: BankSet, bytes: &[u8], request: Request) -> EntryStart
+pub fn start_request(bank: BankSet, bytes: &[u8], request: Request, parted: bool) -> EntryStart
     requires { ⌜ ValidBank bank ⌝ }
-    ensures { λ r. ⌜ Answered toldStart Valid (requestStart bank (now (bytes .entry)) request) r ⌝ }
+    ensures { λ r. ⌜ Answered toldStart Valid (requestStartUnder parted bank (now (bytes .entry)) request) r ⌝ }
 {
     match bank::find_by_id(bank, bytes, request.id) {
         EntryRead::Refused(e) => EntryStart::Refused(e),
         EntryRead::Entry(entry) => {
             let adsr = request.adsr;
-            start_entry(bank, bytes, entry, adsr, request.priority)
+            start_entry(bank, bytes, entry, adsr, request.priority, parted)
         }
     }
 }

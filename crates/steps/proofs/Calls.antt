@@ -19,7 +19,7 @@ use Rattle.mixer.specs.declared.Changed.{Changed}
 use Rattle.mixer.specs.declared.Mixer.{Mixer}
 use Rattle.mixer.specs.declared.VoiceRead.{VoiceRead}
 use Rattle.mixer.specs.declared.VoiceRead.the-variants as R
-use Rattle.play.specs.Fades.{firstReleased, begun, fadedBy, fadedTo, faded}
+use Rattle.play.specs.Fades.{firstReleased, begun, fadedBy, fadedTo, fadedUnder, faded}
 use Rattle.play.specs.Plays.{firstSounding, toned, polyBleped}
 use Rattle.requests.proofs.One.{rest-one}
 use Rattle.start.specs.Starts.{entryStart}
@@ -62,18 +62,18 @@ unfolding firstReleased
 released-leaves m = record { active = refl; t = refl; step = refl }
 
 pub fading-by : (m : Mixer) (bytes : List ℕ) (id ms : ℕ) (adsr : AdsrSpec) → Fading m ms (faded m bytes id ms adsr)
-unfolding faded fadedBy firstReleased
+unfolding fadedUnder fadedBy firstReleased
 fading-by m bytes id ms adsr = by-count (ltb (m .n) 2)
   where
     by-start : (s : Told Voice) → Fading m ms (fadedBy (firstReleased m) ms s)
     by-start (refused n) = down refl (released-leaves m)
     by-start (value v) = begins refl v refl
 
-    by-entry : (r : Told EffectEntry) → Fading m ms (fadedTo m bytes ms adsr r)
+    by-entry : (r : Told EffectEntry) → Fading m ms (fadedTo false m bytes ms adsr r)
     by-entry (refused n) = down refl (same m)
     by-entry (value entry) = by-start (entryStart (m .bank) bytes entry adsr 128)
 
-    by-count : (t : Bool) → Fading m ms (cond t (unchanged m 5) (fadedTo m bytes ms adsr (foundGiven (m .bank) bytes id)))
+    by-count : (t : Bool) → Fading m ms (cond t (unchanged m 5) (fadedTo false m bytes ms adsr (foundGiven (m .bank) bytes id)))
     by-count true = down refl (same m)
     by-count false = by-entry (foundGiven (m .bank) bytes id)
 

@@ -1,8 +1,8 @@
-//! Document 01, "Where a call is turned down": its numbers and words.
+//! Document 01, "Where a call is turned down", and what document 02's requests add: numbers and words.
 
 use std::fmt;
 
-/// Why a call is turned down. The numbers are document 01's.
+/// Why a call is turned down. The numbers are the papers'.
 #[derive(Clone, Copy, Debug, PartialEq, Eq, Hash)]
 #[repr(u8)]
 pub enum Refusal {
@@ -20,11 +20,13 @@ pub enum Refusal {
     LowRate = 12,
     BadEntries = 13,
     ShortBuffer = 14,
+    BadOffset = 15,
+    BadLength = 16,
 }
 
 impl Refusal {
     /// Every refusal, in the order of its number.
-    pub const ALL: [Refusal; 14] = [
+    pub const ALL: [Refusal; 16] = [
         Refusal::VoiceCount,
         Refusal::BadRate,
         Refusal::BadPeriod,
@@ -39,9 +41,11 @@ impl Refusal {
         Refusal::LowRate,
         Refusal::BadEntries,
         Refusal::ShortBuffer,
+        Refusal::BadOffset,
+        Refusal::BadLength,
     ];
 
-    /// Document 01's number.
+    /// The papers' number.
     pub fn number(self) -> u8 {
         self as u8
     }
@@ -50,11 +54,14 @@ impl Refusal {
     ///
     /// # Panics
     ///
-    /// Above 14, which no call answers (`error/specs/Numbers.antt`).
+    /// Of a number that no call answers (`error/specs/Numbers.antt`).
     pub(crate) fn read(number: u8) -> Result<(), Refusal> {
         match number {
             0 => Ok(()),
-            n => Err(Refusal::ALL[usize::from(n) - 1]),
+            n => Err(Refusal::ALL
+                .into_iter()
+                .find(|refusal| refusal.number() == n)
+                .expect("a refusal's number")),
         }
     }
 }
@@ -65,7 +72,7 @@ impl fmt::Display for Refusal {
             Refusal::VoiceCount => "more than 16 voices",
             Refusal::BadRate => "sample rate above 65,537",
             Refusal::BadPeriod => "PWM period below 2",
-            Refusal::TruncatedBank => "entries or a payload go past the bank's bytes",
+            Refusal::TruncatedBank => "entries go past the bank's bytes",
             Refusal::VoiceBusy => "no voice for the request",
             Refusal::NoBank => "no bank set",
             Refusal::BankMismatch => "another number of bytes lent than set",
@@ -76,6 +83,8 @@ impl fmt::Display for Refusal {
             Refusal::LowRate => "an evacuation pattern or its reader at a rate below 20",
             Refusal::BadEntries => "more than 64 entries, a kind above 5, a payload over 65,535 bytes, other lengths than lent, or an id twice",
             Refusal::ShortBuffer => "a buffer shorter than what is written to it",
+            Refusal::BadOffset => "a payload's offset is past the end of the bank",
+            Refusal::BadLength => "a payload runs past the end of the bank",
         })
     }
 }

@@ -312,7 +312,10 @@ fn a_bank() {
     assert_eq!(bell().payload_of(8), Err(Refusal::EffectNotFound));
     assert_eq!(bell().payload(10, 3), Ok(&BELL[10..13]));
     assert_eq!(bell().payload(28, 0), Ok(&BELL[28..]));
-    assert_eq!(bell().payload(27, 2), Err(Refusal::TruncatedBank));
+    assert_eq!(bell().payload(27, 2), Err(Refusal::BadLength));
+    assert_eq!(bell().payload(28, 1), Err(Refusal::BadLength));
+    assert_eq!(bell().payload(29, 0), Err(Refusal::BadOffset));
+    assert_eq!(bell().payload(u32::MAX, u32::MAX), Err(Refusal::BadOffset));
     let fast = Bank {
         sample_rate_hz: 65_538,
         ..bell()
@@ -327,7 +330,7 @@ fn a_bank() {
         bytes: &BELL[..27],
         ..bell()
     };
-    assert_eq!(cut.payload_of(7), Err(Refusal::TruncatedBank));
+    assert_eq!(cut.payload_of(7), Err(Refusal::BadLength));
     let mut odd = BELL;
     odd[12] = 6;
     let odd = Bank {

@@ -18,6 +18,8 @@ mod engine;
 mod enginebad;
 #[path = "generate/lengths.rs"]
 mod lengths;
+#[path = "generate/payloads.rs"]
+mod payloads;
 #[path = "generate/plays.rs"]
 mod plays;
 #[path = "generate/random.rs"]
@@ -41,12 +43,12 @@ const USAGE: &str = "usage: generate random SEED COUNT  COUNT good records
        generate bad SEED COUNT     up to COUNT good records, a bad line, more lines
        generate all NAME [COUNT]   a whole set; COUNT is for db, the floats spread over all bit patterns
        generate names              the names of the sets
-       generate engine NAME SEED COUNT  a run of an engine: COUNT banks for banks, else about or up to COUNT records
+       generate engine NAME SEED COUNT  a run of an engine: COUNT banks for banks and payloads, else about or up to COUNT records
        generate engine-names       the names of the runs without frames
        generate frame-names        the names of the runs with frames
        generate recorded [engine|frames]  the recorded list, with an engine's records and its frames if asked
        generate present ...        any of these with boxes of both documents and the records of the present rules; names of the sets
-                                   that these add";
+                                   that these add, names of all runs";
 
 fn main() {
     let arguments: Vec<String> = std::env::args().skip(1).collect();
@@ -78,7 +80,12 @@ fn print(arguments: &[&str]) -> Option<()> {
         }
         ["names"] if script.present => names(&mut script, &sets::PRESENT_SETS),
         ["names"] => names(&mut script, &sets::SETS),
-        ["engine-names"] => names(&mut script, &engine::NAMES),
+        ["engine-names"] => {
+            names(&mut script, &engine::NAMES);
+            if script.present {
+                names(&mut script, &engine::PRESENT_NAMES);
+            }
+        }
         ["frame-names"] => names(&mut script, &engine::FRAME_NAMES),
         ["recorded"] => recorded::print(&mut script, None),
         ["recorded", "engine"] => recorded::print(&mut script, Some(false)),

@@ -24,23 +24,35 @@ mod writing;
 /// The records of an engine, answered by the original as it is.
 #[path = "replay"]
 mod document_01 {
+    use crate::numbers::TRUNCATED;
     use oracle as original;
+    use original::error::AudioError;
 
     pub mod choices;
     pub mod engine;
     mod frames;
     mod rules;
+
+    /// The numbers of a payload that does not lie in the bank.
+    const PAYLOAD_NUMBERS: [(AudioError, i64); 1] = [(AudioError::TruncatedBank, TRUNCATED)];
 }
 
 /// The same files over the original with document 02's replacements.
 #[path = "replay"]
 mod document_02 {
+    use crate::numbers::{OFFSET_BEYOND, RUNS_OVER};
+    use original::error::AudioError;
     use present as original;
 
     mod choices;
     pub mod engine;
     mod frames;
     mod rules;
+
+    const PAYLOAD_NUMBERS: [(AudioError, i64); 2] = [
+        (AudioError::OffsetBeyondBank, OFFSET_BEYOND),
+        (AudioError::PayloadRunsOver, RUNS_OVER),
+    ];
 }
 
 use answers::Answers;

@@ -1,6 +1,7 @@
 -- `bank::payload` meets its contract: a payload that is whole ends within the bytes.
 use Prim.Native.Nat.{ℕ, _+_, _-_}
 use borrow.Author.Needs.{needs}
+use mathlib.Core.Bool.{false}
 use mathlib.Core.Path.{_≡_, sym, ap, _∙_}
 use native.Mathlib.Omega.{arith}
 use lib.ListN.{take, drop}
@@ -12,7 +13,7 @@ use Rattle.bank.proofs.payload.Tie as tie
 part-result-end-2 : tie.Need-part-result-end-2
 part-result-end-2 c =
     let a = c .before .before .before .before .args in
-    let h = whole-within (a .bank) (a .bytes .now) (a .offset) (a .len) (sym (c .before .before .payload-number .ensures) ∙ ap toldPayload (c .enum-told2 .given .1)) in
+    let h = whole-within false (a .bank) (a .bytes .now) (a .offset) (a .len) (sym (c .before .before .payload-number .ensures) ∙ ap toldPayload (c .enum-told2 .given .1)) in
     search needs
 
 returns : tie.Need-returns

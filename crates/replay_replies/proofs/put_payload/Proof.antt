@@ -19,7 +19,7 @@ returns c =
     let a = w .before .before .before .before .args in
     let short = part-short (mixerOf (a .e) .bank) (a .bytes .now) (w .before .long-at .result) (w .wide-at .result) in
     let all = numbered-all byteText 2 (n .payload-number2 .result) 2 (λ x. length-hexOf 2 x) (q .payload .result .now) (omega (arith, ap length (q .payload .ensures), short, w .wide-at .ok)) (c .put-u8s .ensures) in
-    payload-laid (mixerOf (a .e) .bank) (a .l .now) (a .bytes .now) (w .before .long-at .ensures) (w .wide-at .ensures) (n .before .payload-number .ensures) (n .payload-number2 .ensures) (q .payload .ensures) all
+    payload-laid (a .e .present) (mixerOf (a .e) .bank) (a .l .now) (a .bytes .now) (w .before .long-at .ensures) (w .wide-at .ensures) (n .before .payload-number .ensures) (n .payload-number2 .ensures) (q .payload .ensures) all
 
 pub put-payload-spec : {M : Type 1} → statement M
 put-payload-spec =

@@ -16,14 +16,14 @@ use Rattle.requests.proofs.play_each.Statement.{statement}
 use Rattle.requests.proofs.play_each.Tie as tie
 
 abbrev Inv-loop : tie.InvT-loop
-Inv-loop bytes requests outcomes₀ count mixer₀ marks₀ ranks₀ i₀ outcomes mixer marks ranks i =
-    Playing (record { mixer = mixer₀; marks = marks₀ }) bytes requests outcomes₀ count i (record { mixer = mixer; marks = marks }) ranks outcomes
+Inv-loop bytes requests outcomes₀ parted count mixer₀ marks₀ ranks₀ i₀ outcomes mixer marks ranks i =
+    Playing parted (record { mixer = mixer₀; marks = marks₀ }) bytes requests outcomes₀ count i (record { mixer = mixer; marks = marks }) ranks outcomes
 
 abbrev μ-loop : tie.MeasureT-loop
-μ-loop bytes requests outcomes₀ count mixer₀ marks₀ ranks₀ i₀ outcomes mixer marks ranks i = count - i
+μ-loop bytes requests outcomes₀ parted count mixer₀ marks₀ ranks₀ i₀ outcomes mixer marks ranks i = count - i
 
 loop-holds : tie.Need-loop-holds Inv-loop μ-loop
-loop-holds c = playing-start _ _ _ _ _ _ (c .before .before .before .before .before .before .before .pre) (c .ranks-of .ensures)
+loop-holds c = playing-start _ _ _ _ _ _ _ (c .before .before .before .before .before .before .before .pre) (c .ranks-of .ensures)
 
 -- there are as many ranks as voices
 sixteen : (c : tie.At-loop Inv-loop μ-loop) → length (c .loop .ranks) ≡ 16
@@ -34,7 +34,7 @@ below : (c : tie.After-k Inv-loop μ-loop) → c .k .given .0 .0 < 16
 below c =
     let s = c .before .before in
     let l = s .before .before .before .before .loop in
-    let g = placed-stored (l .mixer) _ _ (l .ranks) _ _ (l .inv .ranked) (sym (s .place .ensures .same) ∙ ap toldPlaced (c .k .given .1)) in
+    let g = placed-stored _ (l .mixer) _ _ (l .ranks) _ _ (l .inv .ranked) (sym (s .place .ensures .same) ∙ ap toldPlaced (c .k .given .1)) in
     omega (arith, g .place, l .inv .valid .inside .few)
 
 loop-again : tie.Need-loop-again Inv-loop μ-loop
@@ -48,26 +48,26 @@ loop-again c =
     ⊎-elim
     (λ w.
     rw (w .8, w .9, w .10, w .11, w .5 .ensures, w .4 .ensures)
-    (playing-kept _ _ _ _ _ (l .i) (record { mixer = l .mixer; marks = l .marks }) (l .ranks) (l .outcomes) _ (l .inv) h q (w .1 .given .0 .0)
+    (playing-kept _ _ _ _ _ _ (l .i) (record { mixer = l .mixer; marks = l .marks }) (l .ranks) (l .outcomes) _ (l .inv) h q (w .1 .given .0 .0)
     (sym (p .same) ∙ ap toldPlaced (w .1 .given .1))))
     (λ w.
     rw (w .8, w .9, w .10, w .11, w .3 .ensures, w .5 .ensures)
-    (playing-stored _ _ _ _ _ (l .i) (record { mixer = l .mixer; marks = l .marks }) (l .ranks) (l .outcomes) _ (l .inv) h q _ _
+    (playing-stored _ _ _ _ _ _ (l .i) (record { mixer = l .mixer; marks = l .marks }) (l .ranks) (l .outcomes) _ (l .inv) h q _ _
     (sym (p .same) ∙ ap toldPlaced (w .1 .given .1)) (rw (w .1 .given .1) at (p .valid))))
     (c .match .came)
 
 same-length : tie.Need-same-length Inv-loop μ-loop
 same-length c =
     let l = c .before .loop in
-    ap length (playing-end _ _ _ _ _ (l .i) _ (l .ranks) (l .outcomes) (l .inv) (c .loop-test .left) .1) ∙ simp length-sets
+    ap length (playing-end _ _ _ _ _ _ (l .i) _ (l .ranks) (l .outcomes) (l .inv) (c .loop-test .left) .1) ∙ simp length-sets
 
 returns : tie.Need-returns Inv-loop μ-loop
 returns c =
     let a = c .before in
     let s = a .before .before .before .before .before .before .before .before in
-    let e = playing-end _ _ _ _ _ (a .loop .i) _ (a .loop .ranks) (a .loop .outcomes) (a .loop .inv) (c .loop-test .left) in
+    let e = playing-end _ _ _ _ _ _ (a .loop .i) _ (a .loop .ranks) (a .loop .outcomes) (a .loop .inv) (c .loop-test .left) in
     record {
-      plays = record { same = e .0; valid = a .loop .inv .valid; demand = λ p. rw (e .0) (demand-3 present lawful _ (s .args .p) _ (s .pre .inside) p) };
+      plays = record { same = e .0; valid = a .loop .inv .valid; demand = λ p. rw (e .0) (demand-3 (present _) (lawful _) _ (s .args .p) _ (s .pre .inside) p) };
       outcomes = e .1;
     }
 

@@ -3,7 +3,7 @@ use borrow.Author.Needs.{needs}
 use denote.Ref.{now}
 use mathlib.Core.Path.{sym, ap, _∙_}
 use Rattle.bank.specs.Banks.{toldPayload}
-use Rattle.start.specs.Starts.{entryStart}
+use Rattle.start.specs.Starts.{entryStartUnder}
 use Rattle.start.proofs.Laws.{start-refused, start-whole}
 use Rattle.start.proofs.start_entry.Statement.{statement}
 use Rattle.start.proofs.start_entry.Tie as tie
@@ -14,7 +14,7 @@ start-at-requires c κs =
     rw (c .sample-rate-hz .ensures) ((rw (s .bank .given .1) at (s .before .before .before .pre)) .rate)
 
 returns : tie.Need-returns
-unfolding entryStart
+unfolding entryStartUnder
 returns c = record { same = rw (c .enum-told .given .1); valid = tt }
 
 returns-2 : tie.Need-returns-2
@@ -23,7 +23,7 @@ returns-2 c =
     let s = p .before .before in
     let a = s .before .before .before .args in
     record {
-      same = sym (start-refused (a .bank) _ (now (a .bytes)) (a .entry) (a .adsr) (a .priority) (s .bank .given .1) _ (sym (p .payload-number .ensures) ∙ ap toldPayload (c .before .e .given .1)));
+      same = sym (start-refused (a .parted) (a .bank) _ (now (a .bytes)) (a .entry) (a .adsr) (a .priority) (s .bank .given .1) _ (sym (p .payload-number .ensures) ∙ ap toldPayload (c .before .e .given .1)));
       valid = tt;
     }
 
@@ -37,7 +37,7 @@ returns-3 c =
       same =
           v .same
           ∙ rw (c .before .sample-rate-hz .ensures)
-          (sym (start-whole (a .bank) _ (now (a .bytes)) (a .entry) (a .adsr) (a .priority) (s .bank .given .1) (sym (p .payload-number .ensures) ∙ ap toldPayload (c .before .before .enum-told2 .given .1))));
+          (sym (start-whole (a .parted) (a .bank) _ (now (a .bytes)) (a .entry) (a .adsr) (a .priority) (s .bank .given .1) (sym (p .payload-number .ensures) ∙ ap toldPayload (c .before .before .enum-told2 .given .1))));
       valid = v .valid;
     }
 

@@ -153,16 +153,22 @@ fn push_entry(bytes: &mut Vec<u8>, draw: &mut Draw, id: u16, length: usize, styl
     };
     let short = draw.below(60) as u16;
     let (param0, param1) = (draw.u16(), draw.u16());
-    let (offset, size) = match happens(draw, style.beyond_one_in) {
+    let place = match happens(draw, style.beyond_one_in) {
         true => place_beyond(draw, length),
         false => place_within(draw, length),
     };
+    let single = [kind, draw.u8(), draw.gain(), draw.u8()];
+    let param1 = draw.pick(&[0, 1, 5, short, short, param1]);
+    push(bytes, id, single, [param0, param1], place);
+}
+
+/// An entry's bytes: its id; kind, flags, gain and the unread byte; its parameters; its payload's offset and length.
+pub fn push(bytes: &mut Vec<u8>, id: u16, single: [u8; 4], params: [u16; 2], place: (u32, u16)) {
     bytes.extend(id.to_le_bytes());
-    bytes.extend([kind, draw.u8(), draw.gain(), draw.u8()]);
-    bytes.extend(param0.to_le_bytes());
-    bytes.extend(draw.pick(&[0, 1, 5, short, short, param1]).to_le_bytes());
-    bytes.extend(offset.to_le_bytes());
-    bytes.extend(size.to_le_bytes());
+    bytes.extend(single);
+    bytes.extend(params.map(u16::to_le_bytes).as_flattened());
+    bytes.extend(place.0.to_le_bytes());
+    bytes.extend(place.1.to_le_bytes());
 }
 
 /// A payload that lies in a bank of that length.
@@ -180,9 +186,13 @@ pub fn place_within(draw: &mut Draw, length: usize) -> (u32, u16) {
     }
 }
 
-/// A payload that does not, by one byte or by many.
+/// A payload that does not, by one byte or by many. Where the present rules run half of them lie around an edge, on either side of it.
 pub fn place_beyond(draw: &mut Draw, length: usize) -> (u32, u16) {
     let length = length as u32;
+    if draw.present && draw.one_in(2) {
+        let offset = draw.pick(&offsets(length));
+        return (offset, draw.pick(&lengths(length, offset)));
+    }
     let offset = draw.below(length + 1);
     match draw.below(8) {
         0 => (length, 1),
@@ -194,4 +204,40 @@ pub fn place_beyond(draw: &mut Draw, length: usize) -> (u32, u16) {
         6 => (0xFFFF_FFFF - draw.below(100), draw.u16()),
         _ => (offset, (length - offset + 1) as u16),
     }
+}
+
+/// Offsets around every edge of a bank of that length: its two ends, where sixteen bits end, where a sign would begin, and where 2^32 is within a
+/// payload's reach, or comes within it.
+pub fn offsets(bank: u32) -> [u32; 18] {
+    let (half, top) = (0x8000_0000, u32::MAX);
+    [
+        0,
+        1,
+        bank - 1,
+        bank,
+        bank + 1,
+        bank + 2,
+        65_535,
+        65_536,
+        65_536 + bank,
+        half - 1,
+        half,
+        half + bank,
+        top - 65_535,
+        top - 65_534,
+        top - bank,
+        top - bank + 1,
+        top - 1,
+        top,
+    ]
+}
+
+/// Lengths from an offset on: none, one byte, the most; and those that reach the bank's end and 2^32, or in their low sixteen bits would, with
+/// their neighbours.
+pub fn lengths(bank: u32, offset: u32) -> [u16; 9] {
+    let to_end = bank.wrapping_sub(offset) as u16;
+    let to_top = 0u32.wrapping_sub(offset) as u16;
+    let around = |length: u16| [length.wrapping_sub(1), length, length.wrapping_add(1)];
+    let ([a, b, c], [d, e, f]) = (around(to_end), around(to_top));
+    [0, 1, u16::MAX, a, b, c, d, e, f]
 }

@@ -3,7 +3,7 @@
 use crate::enginebad::{self, ENGINE, FRAMES, OPEN_PRESENT};
 use crate::plays::{self, Among};
 use crate::script::Script;
-use crate::{banks, drift};
+use crate::{banks, drift, payloads};
 
 type Print = fn(&mut Script, u64, u64);
 
@@ -17,6 +17,9 @@ pub const NAMES: [(&str, Print); 3] = [
         enginebad::print(script, seed, count as u32, &codes, &codes)
     }),
 ];
+
+/// Those of the present rules.
+pub const PRESENT_NAMES: [(&str, Print); 1] = [("payloads", payloads::print)];
 
 pub const FRAME_NAMES: [(&str, Print); 4] = [
     ("drift", drift::print),
@@ -40,7 +43,7 @@ fn engine_codes(script: &Script) -> Vec<u8> {
 
 /// Nothing where there is no such name.
 pub fn print(script: &mut Script, name: &str, seed: u64, count: u64) -> Option<()> {
-    let mut named = NAMES.iter().chain(&FRAME_NAMES);
+    let mut named = NAMES.iter().chain(&FRAME_NAMES).chain(&PRESENT_NAMES);
     let print = named.find(|named| named.0 == name)?.1;
     print(script, seed, count);
     Some(())
@@ -68,5 +71,6 @@ pub fn recorded_present(script: &mut Script) {
     banks::print(script, 1, 3);
     plays::print(script, 4, 300, Among::Frames);
     plays::print(script, 6, 300, Among::Fades);
+    payloads::recorded(script);
     script.ends_with_newline = true;
 }

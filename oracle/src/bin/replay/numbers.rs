@@ -14,6 +14,8 @@ pub const BAD_SUM: i64 = 11;
 pub const LOW_RATE: i64 = 12;
 pub const BAD_ENTRIES: i64 = 13;
 pub const SHORT_BUFFER: i64 = 14;
+pub const OFFSET_BEYOND: i64 = 15;
+pub const RUNS_OVER: i64 = 16;
 
 pub const MOST_VOICES: u8 = 16;
 pub const HIGHEST_RATE: u32 = 65_537;

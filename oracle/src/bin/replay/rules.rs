@@ -1,13 +1,14 @@
 //! Refusals of an engine's calls. The original decides wherever it has the refusal itself; the ones that the port adds (7 and 10) are
 //! found here, in their place among the others.
 
+use super::PAYLOAD_NUMBERS;
 use super::original::bank::{EffectEntry, SoundBank};
 use super::original::engine::AudioEngine;
 use super::original::envelope::AdsrSpec;
 use super::original::error::AudioError;
 use super::original::tier::EffectKind;
 use crate::numbers::{
-    BANK_MISMATCH, INVALID_KIND, NO_BANK, NOT_CARRIED, NOT_FOUND, Ruled, TRUNCATED, VOICE_BUSY,
+    BANK_MISMATCH, INVALID_KIND, NO_BANK, NOT_CARRIED, NOT_FOUND, Ruled, VOICE_BUSY,
 };
 
 /// An engine between two calls.
@@ -15,12 +16,15 @@ pub type Engine<const N: usize> = AudioEngine<'static, N>;
 
 fn number(error: AudioError) -> i64 {
     match error {
-        AudioError::TruncatedBank => TRUNCATED,
         AudioError::VoiceBusy => VOICE_BUSY,
         AudioError::NoBank => NO_BANK,
         AudioError::EffectNotFound => NOT_FOUND,
         AudioError::InvalidEffectKind => INVALID_KIND,
-        _ => unreachable!("an error of a call that is not carried over"),
+        _ => {
+            let mut numbers = PAYLOAD_NUMBERS.into_iter();
+            let found = numbers.find(|known| known.0 == error);
+            found.expect("an error of a call that is carried over").1
+        }
     }
 }
 
@@ -120,7 +124,7 @@ pub fn fade<const N: usize>(
     let busy = N < 2;
     if !busy && let Some(number) = added(engine, lent, id) {
         if number == NOT_CARRIED {
-            // Given at the entry start, before which voice 0 is released. Where 4 is given there the original does it.
+            // Given at the entry start, before which voice 0 is released. Where the payload is refused there the original does it.
             engine.voice_mut(0).expect("two voices").release();
         }
         return Err(number);

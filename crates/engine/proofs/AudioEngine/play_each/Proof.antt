@@ -1,5 +1,6 @@
 -- The requests go to the engine's state as one of the present rules, and the mixer's state comes out of it again. Assumes nothing.
 use borrow.Author.Needs.{needs}
+use mathlib.Core.Bool.{false}
 use Rattle.marks.specs.Marks.{Valid}
 use Rattle.marks.proofs.Laws.{lifted-valid}
 use Rattle.requests.specs.Presents.{present}
@@ -16,7 +17,7 @@ play-each-requires c κs = rw (c .before .lifted .ensures) (lifted-valid _ (c .b
 returns : tie.Need-returns
 returns c =
     let p = c .before .before .before .play-each in
-    rw (c .before .before .before .before .before .lifted .ensures) at (each-along present player taken follows _ Valid ValidEngine taken-valid _ _ _ (p .result) _ (p .ensures))
+    rw (c .before .before .before .before .before .lifted .ensures) at (each-along (present false) player taken follows _ Valid ValidEngine taken-valid _ _ _ (p .result) _ (p .ensures))
 
 pub play-each-spec : {M : Type 1} → statement M
 play-each-spec = tie.close (tie.spec (λ c κs. search needs) play-each-requires (λ c. search needs) returns)

@@ -6,13 +6,13 @@ use borrow.Author.Needs.{needs}
 use borrow.Author.Tests.{lt-ltb, le-ltb}
 use Rattle.bank.specs.Entries.{toldEntry}
 use Rattle.error.proofs.Told.{refusal-number}
-use Rattle.play.specs.Fades.{faded}
+use Rattle.play.specs.Fades.{fadedUnder}
 use Rattle.play.proofs.Laws.{released-count}
 use Rattle.play.proofs.fades.crossfade_to.Statement.{statement}
 use Rattle.play.proofs.fades.crossfade_to.Tie as tie
 
 returns : tie.Need-returns
-unfolding faded
+unfolding fadedUnder
 returns c = record { same = rw (lt-ltb _ _ (c .if1 .taken)); valid = c .before .before .before .pre }
 
 first-released-requires : tie.Need-first-released-requires
@@ -28,7 +28,7 @@ faded-by-requires c κs =
     (r .valid, (k, c .start-entry .ensures .valid))
 
 returns-2 : tie.Need-returns-2
-unfolding faded
+unfolding fadedUnder
 returns-2 c =
     let f = c .before .before .before in
     record {
@@ -37,7 +37,7 @@ returns-2 c =
     }
 
 returns-3 : tie.Need-returns-3
-unfolding faded
+unfolding fadedUnder
 returns-3 c =
     let g = c .before .before in
     let f = g .before .before .before .before in

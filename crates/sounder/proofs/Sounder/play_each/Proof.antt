@@ -1,5 +1,6 @@
 -- What the part promises, in its box. Assumes nothing.
 use borrow.Author.Needs.{needs}
+use mathlib.Core.Bool.{true}
 use Rattle.marks.specs.Marks.{Valid}
 use Rattle.requests.specs.Presents.{present}
 use Rattle.requests.proofs.Along.{each-along}
@@ -12,7 +13,7 @@ use Rattle.sounder.proofs.Sounder.play_each.Tie as tie
 returns : tie.Need-returns
 returns c =
     let p = c .before .before .play-each in
-    each-along present player boxed follows _ Valid ValidSounder boxed-valid _ _ _ (p .result) _ (p .ensures)
+    each-along (present true) player boxed follows _ Valid ValidSounder boxed-valid _ _ _ (p .result) _ (p .ensures)
 
 pub play-each-spec : {M : Type 1} → statement M
 play-each-spec = tie.close (tie.spec (λ c κs. search needs) (λ c. search needs) returns)

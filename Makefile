@@ -3,7 +3,7 @@
 # make differential  the long comparison with the Rust original
 # make drift         how far the float pitch drifts, measured on the running programs (docs/PITCH.md)
 # make edits         every must-fail edit, those of the gate and the others
-# make pictures      docs/pictures, and the table of docs/LENGTHS.md, made anew from the program's answers
+# make pictures      docs/pictures, and the tables of docs/LENGTHS.md and docs/PLANNING.md, made anew from the program's answers
 # make hosts         the static libraries, tested from C and from Rust; the program that makes banks from lists
 # make mutants       the mutation run (docs/MUTANTS.md)
 # make bench         the comparison with it in speed (docs/SPEED.md); it takes minutes and belongs to no gate
@@ -43,6 +43,7 @@ pictures:
 	tools/prove replay
 	tools/pictures
 	tools/bells
+	tools/planning
 
 oracle-tests:
 	cargo test --release --offline --locked --quiet --manifest-path oracle/Cargo.toml --target-dir oracle/target

@@ -38,7 +38,8 @@ enum birchjack_refusal {
     BIRCHJACK_BAD_ENTRIES = 13,        /* entries that make no bank */
     BIRCHJACK_SHORT_BUFFER = 14,       /* a buffer shorter than what is written to it */
     BIRCHJACK_BAD_OFFSET = 15,         /* a payload's offset is past the end of the bank */
-    BIRCHJACK_BAD_LENGTH = 16          /* a payload runs past the end of the bank */
+    BIRCHJACK_BAD_LENGTH = 16,         /* a payload runs past the end of the bank */
+    BIRCHJACK_NOT_COUNTED = 22         /* a site past what is counted: voices, priorities, requests or priority */
 };
 
 /* ---- numbers alone */
@@ -78,6 +79,14 @@ uint8_t birchjack_length_carrying(uint16_t ms, uint32_t sample_rate_hz, uint32_t
 
 /* The total of a list, in one call: what the calls above give in turn, begun with remainder 0. */
 uint8_t birchjack_total_length(const uint16_t *lengths, size_t lengths_len, uint32_t sample_rate_hz, uint64_t (*out)[2]);
+
+/* ---- planning a site (docs/PLANNING.md) */
+
+/* How often a signal would be turned away: of all lists of so many sound requests, of priorities 0 to `priorities` - 1, to a silent box of so
+ * many voices under LowestPriorityOldest, those after which a sound request of that priority is refused, and those after which it is accepted. The
+ * two add up to `priorities` to the power `requests`. 22 for `priorities` outside 1 to 4, more than 8 requests, more than 16 voices, or a priority
+ * that is not below `priorities`. */
+uint8_t birchjack_turned_away(uint8_t voices, uint8_t priorities, uint8_t requests, uint8_t priority, uint32_t (*out)[2]);
 
 /* ---- an envelope alone */
 

@@ -1,4 +1,4 @@
-"""Records for tools/pictures and tools/bells, and what the replay program answers to them (docs/REPLAY.md and the page that it names)."""
+"""Records for tools/pictures, tools/bells and tools/planning, and what the replay program answers to them (docs/REPLAY.md and the page that it names)."""
 import subprocess
 from pathlib import Path
 
@@ -10,7 +10,7 @@ SOURCE = (1, 4, 2, 1, 4)
 WIDTHS = {
     "70": (1, 4, 2, 1, 1, 1), "11": (4, 2), "13": (2, *ENVELOPE, 1), "14": (2, 2, *ENVELOPE), "21": (2,), "30": (),
     "48": (*ENVELOPE, 4, 2, 2), "60": (*SOURCE, 3, 2), "61": (*SOURCE, *ENVELOPE, 1, 1, 1, 3, 1, 2),
-    "80": (4, 4, 2), "81": (4,), "84": (2, 4), "85": (2, 4, 4),
+    "80": (4, 4, 2), "81": (4,), "84": (2, 4), "85": (2, 4, 4), "86": (1, 1, 1, 1),
 }
 TONE, POLYBLEP, FM = 1, 2, 3
 PHASES = ["attack", "decay", "sustain", "release", "idle"]

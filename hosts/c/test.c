@@ -86,6 +86,37 @@ static void lengths(void) {
     CHECK(birchjack_total_length(day, 3, 65538, &all) == BIRCHJACK_BAD_RATE && all[0] == 55 && all[1] == 55);
 }
 
+static void counts(void) {
+    uint32_t out[2] = {55, 55};
+    /* no voice refuses all, fewer requests than voices refuse none */
+    CHECK(birchjack_turned_away(0, 4, 8, 3, &out) == 0 && out[0] == 65536 && out[1] == 0);
+    CHECK(birchjack_turned_away(16, 4, 8, 0, &out) == 0 && out[0] == 0 && out[1] == 65536);
+    CHECK(birchjack_turned_away(2, 2, 2, 1, &out) == 0 && out[0] == 1 && out[1] == 3);
+    CHECK(birchjack_turned_away(8, 4, 8, 0, &out) == 0 && out[0] == 65536 && out[1] == 0);
+    CHECK(birchjack_turned_away(8, 4, 8, 3, &out) == 0 && out[0] == 1 && out[1] == 65535);
+    /* all that is counted: the two add up to k to the power n */
+    for (uint8_t voices = 0; voices <= 16; voices++) {
+        for (uint8_t k = 1; k <= 4; k++) {
+            uint32_t all = 1;
+            for (uint8_t n = 0; n <= 8; n++, all *= k) {
+                for (uint8_t p = 0; p < k; p++) {
+                    CHECK(birchjack_turned_away(voices, k, n, p, &out) == 0 && out[0] + out[1] == all);
+                    CHECK(voices != 0 || out[0] == all);
+                    CHECK(n >= voices || out[0] == 0);
+                }
+            }
+        }
+    }
+    out[0] = out[1] = 55;
+    static const uint8_t past[8][4] = {{17, 4, 8, 0}, {255, 4, 8, 0}, {2, 0, 8, 0}, {2, 5, 8, 0},
+                                       {2, 4, 9, 0}, {2, 4, 255, 0}, {2, 4, 8, 4}, {2, 1, 0, 255}};
+    for (int i = 0; i < 8; i++) {
+        const uint8_t *c = past[i];
+        CHECK(birchjack_turned_away(c[0], c[1], c[2], c[3], &out) == BIRCHJACK_NOT_COUNTED);
+    }
+    CHECK(out[0] == 55 && out[1] == 55);
+}
+
 static void evacuation(void) {
     uint8_t cells[80], b = 55;
     uint32_t n = 55;
@@ -300,6 +331,7 @@ int main(void) {
     limits();
     duties();
     lengths();
+    counts();
     evacuation();
     envelope();
     bank();

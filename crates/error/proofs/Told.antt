@@ -25,6 +25,7 @@ refusal-number E.BadEntries = refl
 refusal-number E.ShortBuffer = refl
 refusal-number E.BadOffset = refl
 refusal-number E.BadLength = refl
+refusal-number E.NotCounted = refl
 
 pub number-refusal : (n : ℕ) → 1 ≤ n → n ≤ 16 → numberOf (refusal n) ≡ n
 number-refusal zero h k = absurd (lt-irrefl 0 (omega arith))

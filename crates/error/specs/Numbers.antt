@@ -21,3 +21,4 @@ numberOf E.BadEntries = 13
 numberOf E.ShortBuffer = 14
 numberOf E.BadOffset = 15
 numberOf E.BadLength = 16
+numberOf E.NotCounted = 22

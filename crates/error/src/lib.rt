@@ -20,6 +20,7 @@ pub enum AudioError {
     ShortBuffer,
     BadOffset,
     BadLength,
+    NotCounted,
 }
 
 impl AudioError {
@@ -43,6 +44,7 @@ impl AudioError {
             AudioError::ShortBuffer => 14,
             AudioError::BadOffset => 15,
             AudioError::BadLength => 16,
+            AudioError::NotCounted => 22,
         }
     }
 }

@@ -2,6 +2,7 @@
 --     Leaves    numbers alone
 --     Levels    an envelope alone
 --     Lengths   lengths with what is left over
+--     Counting  how often a signal would be turned away
 --     Signals   the evacuation pattern and its reader
 --     Banks     a bank that is set for one call
 --     Writing   a bank that is written
@@ -9,6 +10,7 @@
 pub mod Leaves
 pub mod Levels
 pub mod Lengths
+pub mod Counting
 pub mod Signals
 pub mod Banks
 pub mod Writing

@@ -22,7 +22,7 @@ use Rattle.render_account.specs.Account as T
 
 added-within : (n : ℕ) → length (T.addedText n) ≤ 55
 unfolding T.addedText
-added-within n = search (words-within, leb-true) depth 9
+added-within n = search (words-within, leb-true) depth 10
 
 why-within : (n : ℕ) → length (T.whyText n) ≤ 55
 unfolding T.whyText

@@ -23,7 +23,8 @@ addedText n =
     (cond (eqb n 14) (words "the buffer is too short")
     (cond (eqb n 15) (words "its offset is past the end of the bank")
     (cond (eqb n 16) (words "it runs past the end of the bank")
-    (words "a number without words")))))
+    (cond (eqb n 22) (words "the site is past what is counted")
+    (words "a number without words"))))))
 
 -- document 01's numbers, in words
 unfoldable pub whyText : ℕ → List ℕ

@@ -9,10 +9,11 @@ use Rattle.replay_leaves.specs.Replies.{replyOf}
 use Rattle.replay_leaves.specs.Runs.{levelsText, stateText, dutiesText}
 use Rattle.replay_leaves.specs.Sounds.{sourceText, restoredText}
 use Rattle.replay_leaves.specs.Voices.{voiceText}
+use Rattle.replay_leaves.specs.Planning.{countsText}
 use Rattle.replay_patterns.specs.Records.{patternText, readerText}
 use Rattle.replay_banks.specs.Record.{bankText}
 use Rattle.replay_leaves.specs.declared.Reply.{Reply}
-use Rattle.replay_leaves.specs.declared.Reply.the-variants.{Bad, Word, Levels, State, Duties, Source, Voice, Restored, Pattern, Recording, Bank}
+use Rattle.replay_leaves.specs.declared.Reply.the-variants.{Bad, Word, Levels, State, Duties, Source, Voice, Restored, Pattern, Recording, Bank, Counts}
 use Rattle.replay_leaves.specs.declared.Answered.{Answered}
 
 -- a bad line "prints FFFF"
@@ -28,6 +29,7 @@ textOf Restored l = restoredText l
 textOf Pattern l = patternText l
 textOf Recording l = readerText l
 textOf Bank l = bankText l
+textOf Counts l = countsText l
 
 unfoldable pub replyText : List ℕ → List ℕ
 replyText l = textOf (replyOf l) l
@@ -45,6 +47,7 @@ goesOn Restored = true
 goesOn Pattern = true
 goesOn Recording = true
 goesOn Bank = true
+goesOn Counts = true
 
 -- the text stands before the rest of what the buffer held
 pub record Answers (l before after : List ℕ) (r : Answered) : Type 0 where

@@ -3,9 +3,11 @@
 --     Runs       the records of many answers
 --     Sounds     a source alone
 --     Voices     a voice alone
+--     Planning   how often a signal would be turned away
 --     Answers    the text of an answer
 pub mod Replies
 pub mod Runs
 pub mod Sounds
 pub mod Voices
+pub mod Planning
 pub mod Answers

@@ -23,7 +23,7 @@ use Rattle.tier.specs.declared.KindRead.{KindRead}
 use Rattle.tier.specs.declared.KindRead.the-variants.{Kind, Unknown}
 use Rattle.hex.specs.Hex.{allDigits, byteAt, wideAt, longAt}
 use Rattle.replay_leaves.specs.declared.Reply.{Reply}
-use Rattle.replay_leaves.specs.declared.Reply.the-variants.{Bad, Word, Levels, State, Duties, Source, Voice, Restored, Pattern, Recording, Bank}
+use Rattle.replay_leaves.specs.declared.Reply.the-variants.{Bad, Word, Levels, State, Duties, Source, Voice, Restored, Pattern, Recording, Bank, Counts}
 
 -- fields with a sign, in two's complement
 abbrev pub sampleAt : List ℕ → ℕ → ℤ
@@ -165,20 +165,24 @@ unfoldable pub bankReply : List ℕ → Reply
 bankReply l =
     cond (ltb (length l) (28 + 26 * byteAt l 13)) Bad (cond (eqb (length l % 2) 1) Bad (cond (leb (wideAt l 11) 4096) Bank Bad))
 
--- the records by their code, each with its length; any other code is bad
-abbrev pub replyFor : ℕ → List ℕ → Reply
-replyFor code l =
+-- The records by their code, each with its length. Document 02's; any other code is bad:
+unfoldable pub addedReply : ℕ → List ℕ → Reply
+addedReply code l =
     let n = length l in
-    cond (eqb code 0x40) (sized n 2 (gainReply false l))
-    (cond (eqb code 0x41) (sized n 3 (lerpReply l))
-    (cond (eqb code 0x42) (sized n 4 (limiterReply l))
-    (cond (eqb code 0x43) (sized n 1 (panReply l))
-    (cond (eqb code 0x44) (sized n 8 (incrementReply l))
-    (cond (eqb code 0x45) (sized n 1 (sineReply l))
-    (cond (eqb code 0x46) (sized n 3 (dutyReply l))
-    (cond (eqb code 0x47) (sized n 6 (fadeReply l))
-    (cond (eqb code 0x48) (sized n 15 Levels)
-    (cond (eqb code 0x50) (sized n 4 (toGainReply l))
+    cond (eqb code 0x80) (sized n 10 (patternReply l))
+    (cond (eqb code 0x81) (recordingReply l)
+    (cond (eqb code 0x82) (sized n 2 (gainReply true l))
+    (cond (eqb code 0x83) (bankReply l)
+    (cond (eqb code 0x84) (sized n 6 (lengthReply l))
+    (cond (eqb code 0x85) (sized n 10 (carryingReply l))
+    (cond (eqb code 0x86) (sized n 4 Counts)
+    Bad))))))
+
+-- our own, of document 01's box
+unfoldable pub ownReply : ℕ → List ℕ → Reply
+ownReply code l =
+    let n = length l in
+    cond (eqb code 0x50) (sized n 4 (toGainReply l))
     (cond (eqb code 0x51) (sized n 1 (toDecibelsReply l))
     (cond (eqb code 0x52) (sized n 4 (phaseReply l))
     (cond (eqb code 0x53) (sized n 3 (crossfadeReply l))
@@ -191,13 +195,22 @@ replyFor code l =
     (cond (eqb code 0x60) (sized n 17 (sourceReply l))
     (cond (eqb code 0x61) (sized n 28 (voiceReply l))
     (cond (eqb code 0x6A) (sized n 11 (restoredReply l))
-    (cond (eqb code 0x80) (sized n 10 (patternReply l))
-    (cond (eqb code 0x81) (recordingReply l)
-    (cond (eqb code 0x82) (sized n 2 (gainReply true l))
-    (cond (eqb code 0x83) (bankReply l)
-    (cond (eqb code 0x84) (sized n 6 (lengthReply l))
-    (cond (eqb code 0x85) (sized n 10 (carryingReply l))
-    Bad)))))))))))))))))))))))))))
+    (addedReply code l)))))))))))))
+
+-- the replay format's
+abbrev pub replyFor : ℕ → List ℕ → Reply
+replyFor code l =
+    let n = length l in
+    cond (eqb code 0x40) (sized n 2 (gainReply false l))
+    (cond (eqb code 0x41) (sized n 3 (lerpReply l))
+    (cond (eqb code 0x42) (sized n 4 (limiterReply l))
+    (cond (eqb code 0x43) (sized n 1 (panReply l))
+    (cond (eqb code 0x44) (sized n 8 (incrementReply l))
+    (cond (eqb code 0x45) (sized n 1 (sineReply l))
+    (cond (eqb code 0x46) (sized n 3 (dutyReply l))
+    (cond (eqb code 0x47) (sized n 6 (fadeReply l))
+    (cond (eqb code 0x48) (sized n 15 Levels)
+    (ownReply code l)))))))))
 
 -- "No good line is longer than 8,194 digits"; the first byte is the code
 unfoldable pub replyOf : List ℕ → Reply

@@ -1,6 +1,6 @@
-// Answers to a script's lines: records 40 to 48 of the replay format and our own 50 to 6A, and 80, 81 and 83 to 85.
+// Answers to a script's lines: records 40 to 48 of the replay format, our own 50 to 6A, and 80 to 86 of document 02's requests.
 ghost use mathlib.Core.Path.{_≡_};
-ghost use Rattle.replay_leaves.specs.Replies.{sized, dutiesReply, replyFor, replyOf, patternReply, recordingReply, bankReply};
+ghost use Rattle.replay_leaves.specs.Replies.{sized, dutiesReply, patternReply, recordingReply, bankReply, addedReply, ownReply, replyFor, replyOf};
 ghost use Rattle.replay_leaves.specs.Answers.{Answers};
 use hex::all_digits;
 use hex::byte_at;
@@ -9,6 +9,7 @@ use hex::wide_at;
 
 mod leaves;
 mod outputs;
+mod planning;
 mod runs;
 mod sounds;
 mod voices;
@@ -26,6 +27,7 @@ pub enum Reply {
     Pattern,
     Recording,
     Bank,
+    Counts,
 }
 
 // How many bytes the answer has, and whether the run goes on.
@@ -106,7 +108,47 @@ fn bank_reply(l: &[u8]) -> Reply
     }
 }
 
-// By the code. Each reader is total, so a record's length is looked at last.
+// By the code. Each reader is total, so a record's length is looked at last. Document 02's records:
+fn added_reply(code: u8, l: &[u8]) -> Reply
+    ensures { λ r. ⌜ r ≡ addedReply code (now (l .entry)) ⌝ }
+{
+    let n = l.len();
+    match code {
+        0x80 => sized(n, 10, pattern_reply(l)),
+        0x81 => recording_reply(l),
+        0x82 => sized(n, 2, leaves::gain(l, true)),
+        0x83 => bank_reply(l),
+        0x84 => sized(n, 6, outputs::length(l)),
+        0x85 => sized(n, 10, outputs::carrying(l)),
+        0x86 => sized(n, 4, Reply::Counts),
+        _ => Reply::Bad,
+    }
+}
+
+// Our own, of document 01's box.
+fn own_reply(code: u8, l: &[u8]) -> Reply
+    ensures { λ r. ⌜ r ≡ ownReply code (now (l .entry)) ⌝ }
+{
+    let n = l.len();
+    match code {
+        0x50 => sized(n, 4, leaves::decibels_to_gain(l)),
+        0x51 => sized(n, 1, leaves::gain_to_decibels(l)),
+        0x52 => sized(n, 4, leaves::phase(l)),
+        0x53 => sized(n, 3, leaves::crossfade(l)),
+        0x54 => sized(n, 4, leaves::clamp(l)),
+        0x55 => sized(n, 1, leaves::kind(l)),
+        0x56 => sized(n, 1, outputs::conversions(l)),
+        0x57 => duties_reply(l),
+        0x58 => sized(n, 15, Reply::State),
+        0x59 => sized(n, 1, outputs::conversion_to_i32(l)),
+        0x60 => sized(n, 17, sounds::source_reply(l)),
+        0x61 => sized(n, 28, voices::voice_reply(l)),
+        0x6A => sized(n, 11, sounds::restored_reply(l)),
+        _ => added_reply(code, l),
+    }
+}
+
+// The replay format's.
 fn reply_for(code: u8, l: &[u8]) -> Reply
     ensures { λ r. ⌜ r ≡ replyFor code (now (l .entry)) ⌝ }
 {
@@ -121,26 +163,7 @@ fn reply_for(code: u8, l: &[u8]) -> Reply
         0x46 => sized(n, 3, outputs::duty(l)),
         0x47 => sized(n, 6, outputs::fade_step(l)),
         0x48 => sized(n, 15, Reply::Levels),
-        0x50 => sized(n, 4, leaves::decibels_to_gain(l)),
-        0x51 => sized(n, 1, leaves::gain_to_decibels(l)),
-        0x52 => sized(n, 4, leaves::phase(l)),
-        0x53 => sized(n, 3, leaves::crossfade(l)),
-        0x54 => sized(n, 4, leaves::clamp(l)),
-        0x55 => sized(n, 1, leaves::kind(l)),
-        0x56 => sized(n, 1, outputs::conversions(l)),
-        0x57 => duties_reply(l),
-        0x58 => sized(n, 15, Reply::State),
-        0x59 => sized(n, 1, outputs::conversion_to_i32(l)),
-        0x60 => sized(n, 17, sounds::source_reply(l)),
-        0x61 => sized(n, 28, voices::voice_reply(l)),
-        0x6A => sized(n, 11, sounds::restored_reply(l)),
-        0x80 => sized(n, 10, pattern_reply(l)),
-        0x81 => recording_reply(l),
-        0x82 => sized(n, 2, leaves::gain(l, true)),
-        0x83 => bank_reply(l),
-        0x84 => sized(n, 6, outputs::length(l)),
-        0x85 => sized(n, 10, outputs::carrying(l)),
-        _ => Reply::Bad,
+        _ => own_reply(code, l),
     }
 }
 
@@ -209,6 +232,10 @@ pub fn answer(line: &[u8], out: &mut [u8; 262144]) -> Answered
         }
         Reply::Bank => {
             let len = replay_banks::bank(line, out);
+            Answered { len, more: true }
+        }
+        Reply::Counts => {
+            let len = planning::counts(line, out);
             Answered { len, more: true }
         }
     }

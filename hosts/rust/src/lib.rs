@@ -13,6 +13,7 @@ struct Page;
 mod bank;
 pub mod evacuation;
 pub mod lengths;
+pub mod planning;
 mod player;
 pub mod raw;
 mod refusal;

@@ -23,6 +23,13 @@ unsafe extern "C" {
         sample_rate_hz: u32,
         out: *mut [u64; 2],
     ) -> u8;
+    pub fn birchjack_turned_away(
+        voices: u8,
+        priorities: u8,
+        requests: u8,
+        priority: u8,
+        out: *mut [u32; 2],
+    ) -> u8;
     pub fn birchjack_envelope(
         attack_ms: u16,
         decay_ms: u16,

@@ -22,11 +22,12 @@ pub enum Refusal {
     ShortBuffer = 14,
     BadOffset = 15,
     BadLength = 16,
+    NotCounted = 22,
 }
 
 impl Refusal {
     /// Every refusal, in the order of its number.
-    pub const ALL: [Refusal; 16] = [
+    pub const ALL: [Refusal; 17] = [
         Refusal::VoiceCount,
         Refusal::BadRate,
         Refusal::BadPeriod,
@@ -43,6 +44,7 @@ impl Refusal {
         Refusal::ShortBuffer,
         Refusal::BadOffset,
         Refusal::BadLength,
+        Refusal::NotCounted,
     ];
 
     /// The papers' number.
@@ -85,6 +87,7 @@ impl fmt::Display for Refusal {
             Refusal::ShortBuffer => "a buffer shorter than what is written to it",
             Refusal::BadOffset => "a payload's offset is past the end of the bank",
             Refusal::BadLength => "a payload runs past the end of the bank",
+            Refusal::NotCounted => "more than 4 priorities, 8 requests or 16 voices, or a priority that is not among them",
         })
     }
 }

@@ -109,6 +109,80 @@ fn lengths_with_what_is_left_over() {
     assert_eq!(total(&[], 22_050), whole(0, 0));
 }
 
+/// All lists of so many requests, as priorities in turn.
+fn lists(priorities: u8, requests: u8) -> Vec<Vec<u8>> {
+    (0..requests).fold(vec![vec![]], |shorter, _| {
+        let longer = |list: &Vec<u8>, priority| [&list[..], &[priority]].concat();
+        let each = |list: Vec<u8>| (0..priorities).map(move |p| longer(&list, p));
+        shorter.into_iter().flat_map(each).collect()
+    })
+}
+
+#[test]
+fn how_often_a_signal_would_be_turned_away() {
+    use birchjack::planning::{Counts, turned_away};
+    let of = |refused, accepted| Ok(Counts { refused, accepted });
+    // no voice refuses all; fewer requests than voices refuse none
+    assert_eq!(turned_away(0, 4, 8, 3), of(65_536, 0));
+    assert_eq!(turned_away(0, 1, 0, 0), of(1, 0));
+    assert_eq!(turned_away(16, 4, 8, 0), of(0, 65_536));
+    assert_eq!(turned_away(3, 4, 2, 0), of(0, 16));
+    // priority 0 is refused by every full box, the highest only by one that is full of its like
+    assert_eq!(turned_away(8, 4, 8, 0), of(65_536, 0));
+    assert_eq!(turned_away(8, 4, 8, 3), of(1, 65_535));
+    for (voices, priorities, requests, priority) in
+        (0..=16u8).flat_map(|n| (1..=4).map(move |k| (n, k, 8 - n % 3, n % k)))
+    {
+        let all = u32::from(priorities).pow(u32::from(requests));
+        let counts = turned_away(voices, priorities, requests, priority).unwrap();
+        assert_eq!(counts.refused + counts.accepted, all);
+    }
+
+    let refused = Err(Refusal::NotCounted);
+    for (voices, priorities, requests, priority) in [
+        (17, 4, 8, 0),
+        (255, 4, 8, 0),
+        (2, 0, 8, 0),
+        (2, 5, 8, 0),
+        (2, 255, 8, 0),
+        (2, 4, 9, 0),
+        (2, 4, 255, 0),
+        (2, 4, 8, 4),
+        (2, 1, 0, 1),
+        (255, 255, 255, 255),
+    ] {
+        let counts = turned_away(voices, priorities, requests, priority);
+        assert_eq!(counts, refused);
+    }
+}
+
+/// Beside requests that are played: every list of up to four, on boxes of up to five voices.
+#[test]
+fn what_trying_every_list_gives() {
+    use birchjack::planning::{Counts, turned_away};
+    for voices in 0..=5u8 {
+        let player = Player {
+            voices: voices.into(),
+            ..player()
+        };
+        let is_refused = |list: &[u8], priority| {
+            let asked: Vec<Request> = [list, &[priority]].concat().into_iter().map(ring).collect();
+            player.play(&asked).unwrap().outcomes.last() == Some(&Err(Refusal::VoiceBusy))
+        };
+        for (priorities, requests) in (1..=3).flat_map(|k| (0..=4).map(move |n| (k, n))) {
+            let tried = lists(priorities, requests);
+            for priority in 0..priorities {
+                let refused = tried.iter().filter(|l| is_refused(l, priority)).count() as u32;
+                let accepted = tried.len() as u32 - refused;
+                assert_eq!(
+                    turned_away(voices, priorities, requests, priority),
+                    Ok(Counts { refused, accepted })
+                );
+            }
+        }
+    }
+}
+
 #[test]
 fn the_evacuation_pattern() {
     use birchjack::evacuation::{cycle, fill, reads, sounds};
@@ -506,10 +580,10 @@ fn players_that_are_refused() {
     assert_eq!(duties, [0x55; 3]);
 }
 
+/// 17 to 21 belong to requests that have not landed.
 #[test]
-fn refusals_have_document_01s_numbers() {
-    for (i, r) in Refusal::ALL.iter().enumerate() {
-        assert_eq!(usize::from(r.number()), i + 1);
-        assert!(!r.to_string().is_empty());
-    }
+fn refusals_have_the_papers_numbers() {
+    let numbers: Vec<u8> = Refusal::ALL.map(Refusal::number).to_vec();
+    assert_eq!(numbers, (1..=16).chain([22]).collect::<Vec<u8>>());
+    assert!(Refusal::ALL.iter().all(|r| !r.to_string().is_empty()));
 }

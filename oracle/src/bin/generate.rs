@@ -6,6 +6,8 @@ mod bad;
 mod bank;
 #[path = "generate/banks.rs"]
 mod banks;
+#[path = "generate/counts.rs"]
+mod counts;
 #[path = "generate/draw.rs"]
 mod draw;
 #[path = "generate/drift.rs"]

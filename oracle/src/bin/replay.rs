@@ -1,11 +1,13 @@
 //! Reads a script on standard input and prints the Rust original's answers: the records of the replay format, our own 50 to
-//! 6A, and those of document 02 (docs/REPLAY.md): 70 and 82 by the original with its replacements, 79 by the original, and 80, 81 and
+//! 6A, and those of document 02 (docs/REPLAY.md): 70, 82 and 86 by the original with its replacements, 79 by the original, and 80, 81 and
 //! 83 to 85, which the original has not. A bad line prints FFFF and ends the run.
 
 #[path = "replay/answers.rs"]
 mod answers;
 #[path = "replay/calls.rs"]
 mod calls;
+#[path = "replay/counts.rs"]
+mod counts;
 #[path = "replay/fields.rs"]
 mod fields;
 #[path = "replay/lengths.rs"]
@@ -78,7 +80,7 @@ const OPENS: [(u8, fn(&mut Fields) -> Opened); 2] = [
 type Answer = fn(&mut Fields, &mut Answers) -> Answered;
 
 /// The records that need no engine: code, least and greatest number of bytes after it, and what answers it.
-const ALONE: [(u8, usize, usize, Answer); 28] = [
+const ALONE: [(u8, usize, usize, Answer); 29] = [
     (0x40, 2, 2, steps::gain),
     (0x41, 3, 3, steps::lerp),
     (0x42, 4, 4, steps::limiter),
@@ -107,6 +109,7 @@ const ALONE: [(u8, usize, usize, Answer); 28] = [
     (0x83, 13, 4_096, writing::write),
     (0x84, 6, 6, lengths::length),
     (0x85, 10, 10, lengths::carrying),
+    (0x86, 4, 4, counts::counts),
 ];
 
 fn main() -> io::Result<()> {

@@ -1,5 +1,6 @@
 //! One good record of any kind.
 
+use crate::counts;
 use crate::draw::Draw;
 use crate::lengths;
 use crate::script::{Envelope, Line, i8, i32, mapper, record, u8, u16, u32};
@@ -12,7 +13,7 @@ type Drawn = fn(&mut Draw) -> Line;
 pub const MOST_SAMPLES: u32 = 4_089;
 
 /// Every record that is read today; those of the present rules last.
-pub const RECORDS: [(u8, Drawn); 28] = [
+pub const RECORDS: [(u8, Drawn); 29] = [
     (0x40, |d| record(0x40, &[i8(d.i8()), u8(d.u8())])),
     (0x41, |d| {
         record(0x41, &[i8(d.i8()), i8(d.i8()), u8(d.u8())])
@@ -45,6 +46,7 @@ pub const RECORDS: [(u8, Drawn); 28] = [
     (0x84, lengths::any_length),
     (0x85, lengths::any_carrying),
     (0x82, |d| record(0x82, &[i8(d.i8()), u8(d.gain())])),
+    (0x86, counts::any_count),
 ];
 
 const BEFORE_PRESENT: usize = 27;

@@ -1,6 +1,7 @@
 //! The recorded list, which is replayed where there is no Rust: small, with the edges of every record, and a bad line at
 //! its end.
 
+use crate::counts;
 use crate::draw::Draw;
 use crate::edges::{BYTES, HALVES, INTEGRATORS, RATES, SAMPLES, WORDS};
 use crate::engine;
@@ -43,6 +44,7 @@ pub fn print(script: &mut Script, frames: Option<bool>) {
     if present {
         script.present = true;
         edge_gains(script, 0x82, &[0, 1, 127, 128, 253, 254, 255]);
+        counts::counts(script);
         engine::recorded_present(script);
     }
     // A lower-case digit: the list can hold one bad line, as nothing after it is read.

@@ -1,5 +1,6 @@
 //! Whole sets: every input of a record where there are few enough, else a grid over the edges.
 
+use crate::counts;
 use crate::edges::{self, HALVES, RATES, SAMPLES, WORDS};
 use crate::lengths;
 use crate::random::MOST_SAMPLES;
@@ -43,7 +44,10 @@ pub const SETS: [(&str, Print); 22] = [
 ];
 
 /// Those of the present rules.
-pub const PRESENT_SETS: [(&str, Print); 1] = [("present-gain", |script, _| gain(script, 0x82))];
+pub const PRESENT_SETS: [(&str, Print); 2] = [
+    ("present-gain", |script, _| gain(script, 0x82)),
+    ("counts", |script, _| counts::counts(script)),
+];
 
 /// Nothing where there is no set of that name.
 pub fn print(script: &mut Script, name: &str, floats: u32) -> Option<()> {

@@ -16,6 +16,7 @@ pub const BAD_ENTRIES: i64 = 13;
 pub const SHORT_BUFFER: i64 = 14;
 pub const OFFSET_BEYOND: i64 = 15;
 pub const RUNS_OVER: i64 = 16;
+pub const BAD_COUNT: i64 = 22;
 
 pub const MOST_VOICES: u8 = 16;
 pub const HIGHEST_RATE: u32 = 65_537;

@@ -10,8 +10,12 @@ const ORIGINAL: &str = "upstream/crates/embedded-audio/src";
 
 fn main() {
     let variable = |name: &str| env::var(name).unwrap_or_else(|_| panic!("no {name} from cargo"));
+    println!("cargo::rustc-check-cfg=cfg(present)");
     let (root, replacements): (_, &[Replacement]) = match variable("CARGO_PKG_NAME").as_str() {
-        "present" => ("..", REPLACEMENTS),
+        "present" => {
+            println!("cargo::rustc-cfg=present");
+            ("..", REPLACEMENTS)
+        }
         _ => (".", &[]),
     };
     let original = Path::new(root).join(ORIGINAL);

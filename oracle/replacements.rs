@@ -12,7 +12,8 @@ pub struct Replacement {
 
 /// Every gain goes through the one function: envelope, voice and pan in `voice.rs`, master in `engine.rs`. FM's depth, the
 /// interpolations and the fade's mix have sums of their own and stay. Every payload is found by the one lookup, at an entry start too; a
-/// bank that is set is not looked at there.
+/// bank that is set is not looked at there. The ages of T-07 are kept beside the voices (`src/ages.rs`): of the calls that start a voice the port
+/// has an entry start, a tone and a PolyBLEP one.
 pub const REPLACEMENTS: &[Replacement] = &[
     Replacement {
         name: "T-03: gain 255 hands the sample through",
@@ -47,6 +48,62 @@ pub const REPLACEMENTS: &[Replacement] = &[
         new: "            Self::InvalidPayload => \"invalid effect payload\",
             Self::OffsetBeyondBank => \"payload begins beyond the bank\",
             Self::PayloadRunsOver => \"payload runs over the bank's end\",
+",
+    },
+    Replacement {
+        name: "T-07: the ages beside the voices",
+        file: "engine.rs",
+        old: "    stealing_policy: VoiceStealingPolicy,\n",
+        new: "    stealing_policy: VoiceStealingPolicy,\n    pub ages: crate::ages::Ages<N>,\n",
+    },
+    Replacement {
+        name: "T-07: none is started at first",
+        file: "engine.rs",
+        old: "            stealing_policy: VoiceStealingPolicy::default(),\n",
+        new: "            stealing_policy: VoiceStealingPolicy::default(),
+            ages: crate::ages::Ages::new(),
+",
+    },
+    Replacement {
+        name: "T-07: among equals the oldest goes",
+        file: "engine.rs",
+        old: "                if v.priority < lowest_prio {\n",
+        new: "                let equal = lowest_idx.filter(|_| v.priority == lowest_prio);
+                let older = equal.is_some_and(|lowest| self.ages.is_older(i, lowest));
+                if v.priority < lowest_prio || older {
+",
+    },
+    Replacement {
+        name: "T-07: an entry start is a start",
+        file: "engine.rs",
+        old: "        self.voices[idx] = voice;\n        Ok(())\n",
+        new: "        self.voices[idx] = voice;
+        self.ages.start(idx);
+        Ok(())
+",
+    },
+    Replacement {
+        name: "T-07: a tone is a start",
+        file: "engine.rs",
+        old: "                .start_tone(freq_hz, duration_ms, waveform, rate);\n",
+        new: "                .start_tone(freq_hz, duration_ms, waveform, rate);
+            self.ages.start(0);
+",
+    },
+    Replacement {
+        name: "T-07: PolyBLEP is a start",
+        file: "engine.rs",
+        old: "                .start_polyblep(freq_hz, duration_ms, waveform, rate);\n",
+        new: "                .start_polyblep(freq_hz, duration_ms, waveform, rate);
+            self.ages.start(0);
+",
+    },
+    Replacement {
+        name: "T-07: at a fade's end voice 0 has voice 1's place in age",
+        file: "engine.rs",
+        old: "            self.voices[1].stop_immediate();\n",
+        new: "            self.voices[1].stop_immediate();
+            self.ages.end_fade();
 ",
     },
 ];

@@ -8,7 +8,7 @@ ROOT = Path(__file__).resolve().parent.parent
 ENVELOPE = (2, 2, 1, 2)
 SOURCE = (1, 4, 2, 1, 4)
 WIDTHS = {
-    "70": (1, 4, 2, 1, 1, 1), "11": (4, 2), "13": (2, *ENVELOPE, 1), "14": (2, 2, *ENVELOPE), "21": (2,), "30": (),
+    "10": (1, 4, 2, 1, 1, 1), "70": (1, 4, 2, 1, 1, 1), "11": (4, 2), "13": (2, *ENVELOPE, 1), "14": (2, 2, *ENVELOPE), "21": (2,), "30": (),
     "48": (*ENVELOPE, 4, 2, 2), "60": (*SOURCE, 3, 2), "61": (*SOURCE, *ENVELOPE, 1, 1, 1, 3, 1, 2),
     "80": (4, 4, 2), "81": (4,), "84": (2, 4), "85": (2, 4, 4), "86": (1, 1, 1, 1),
 }
@@ -81,6 +81,6 @@ def bank(tones):
     return bytes(10) + b"".join(entry(number, hertz) for number, hertz in enumerate(tones, 1))
 
 
-def engine(voices, rate, tones):
-    """Records that open a box of the present rules under LowestPriorityOldest and set its bank."""
-    return [record("70", voices, rate, 1000, 0, 255, 0), "12" + bank(tones).hex().upper(), record("11", rate, len(tones))]
+def engine(voices, rate, tones, opening="70"):
+    """Records that open a box under LowestPriorityOldest, one of the present rules unless said otherwise, and set its bank."""
+    return [record(opening, voices, rate, 1000, 0, 255, 0), "12" + bank(tones).hex().upper(), record("11", rate, len(tones))]

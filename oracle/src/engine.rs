@@ -32,6 +32,8 @@ impl<'a, const N: usize> AudioEngine<'a, N> {
             crossfade_step_q8: self.crossfade_step_q8,
             crossfade_active: self.crossfade_active,
             stealing_policy: self.stealing_policy,
+            #[cfg(present)]
+            ages: self.ages,
             #[cfg(feature = "fm")]
             fm_mapper: self.fm_mapper,
         }

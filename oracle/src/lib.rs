@@ -1,6 +1,6 @@
 //! The Rust original as a library: the files of `upstream/` under a crate root of our own, since the published root is not among
 //! them. This root makes two crates: `oracle`, of the files as they are, and `present`, of the files with document 02's replacements
-//! (`replacements.rs`).
+//! (`replacements.rs`). What stands under `cfg(present)` is of the second alone.
 //!
 //! `build.rs` lays the files out, and a module takes its own in by `include!`: what stands beside the `include!` belongs to the same
 //! module and sees private fields, which comparing state needs.
@@ -49,6 +49,8 @@ pub mod tier {
     original!("tier.rs");
 }
 
+#[cfg(present)]
+pub mod ages;
 pub mod bank;
 pub mod decode;
 pub mod engine;

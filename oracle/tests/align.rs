@@ -115,6 +115,22 @@ fn a_bad_line_ends_the_run() {
     }
 }
 
+/// Two silent voices have the ranks FF and FF, in a box of the present rules.
+#[test]
+fn ranks_that_look_like_a_bad_line() {
+    let present = &OPEN.replacen("10", "70", 1);
+    let refused = &OPEN.replacen("1002", "1011", 1);
+    let after = |opens: &[&str], numbers: &[&str]| {
+        let script = [opens, &["7A", "19", "7A"]].concat();
+        count("ranks", &script, &[numbers, &["FFFF", "FFFF"]].concat())
+    };
+    assert_eq!(after(&[present], &["00"]), "4 0 0\n");
+    assert_eq!(after(&[present, refused], &["00", "01"]), "5 0 0\n");
+    assert_eq!(after(&[OPEN], &["00"]), "2 0 0\n");
+    assert_eq!(after(&[present, OPEN], &["00", "00"]), "3 0 0\n");
+    assert_eq!(after(&[], &[]), "1 0 0\n");
+}
+
 #[test]
 fn the_first_difference_is_shown() {
     let script = format!("{OPEN}\n19\n30\n12\n{PLAY}\n1D\n");

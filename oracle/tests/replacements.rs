@@ -64,6 +64,17 @@ fn what_calls_the_lookup() {
     assert_eq!(changed.matches("AudioError::TruncatedBank").count(), 2);
 }
 
+/// T-07 counts every start of a voice but the wavetable's, which the port does not carry over: each triggers an envelope. A fade ends in one place.
+#[test]
+fn what_starts_a_voice() {
+    let text = original("engine.rs");
+    let changed = replaced("engine.rs", &text, REPLACEMENTS).unwrap();
+    assert_eq!(text.matches("trigger_adsr(").count(), 4);
+    assert_eq!(changed.matches("ages.start(").count(), 3);
+    assert_eq!(text.matches("self.crossfade_active = false").count(), 2);
+    assert_eq!(changed.matches("ages.end_fade()").count(), 1);
+}
+
 #[test]
 fn a_text_that_is_not_there_once_is_an_error() {
     assert_eq!(replaced("a.rs", "a one b", &[ONE]).unwrap(), "a two b");

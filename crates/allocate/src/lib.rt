@@ -5,12 +5,14 @@ ghost use lib.ListN.{take};
 ghost use Rattle.ranking.specs.Rule.{firstFree, firstLowest};
 ghost use Rattle.voice.specs.Voices.{audible};
 ghost use Rattle.mixer.specs.Mixers.{Valid};
-ghost use Rattle.allocate.specs.Allocation.{placeOf, toldPlace, priorityOf, allocated};
+ghost use Rattle.allocate.specs.Allocation.{placeOf, toldPlace, priorityOf, allocated, allocatedOldest};
+ghost use Rattle.marks.specs.Marks as K;
+use marks::Present;
 use mixer::Mixer;
 use mixer::VoiceStealingPolicy;
 use voice::Voice;
 
-pub mod ranks;
+pub mod keys;
 
 pub enum Allocated {
     Voice(usize),
@@ -61,4 +63,19 @@ pub fn allocate_voice(m: Mixer, priority: u8) -> Allocated
             VoiceStealingPolicy::LowestPriorityOldest => first_lowest(voices, n, priority),
         },
     }
+}
+
+// By the present rules: of voices of equal lowest priority the oldest.
+pub fn allocate_oldest(p: Present, priority: u8) -> Allocated
+    requires { ⌜ K.Valid p ⌝ }
+    ensures { λ r. ⌜ toldPlace r ≡ allocatedOldest p priority ⌝ }
+{
+    let m = p.mixer;
+    let k = p.marks;
+    let voices = m.voices;
+    let marks = k.voices;
+    let keys = keys::keys_of(voices, marks, true);
+    let policy = m.stealing_policy;
+    let bound = keys::bound(policy, priority);
+    keys::lowest(&keys, m.n, bound)
 }

@@ -218,7 +218,7 @@ impl AudioEngine {
             adsr,
             priority,
         };
-        let p = play::play_request(m, bytes, request, false);
+        let p = play::play_request(m, bytes, request);
         let outcome = p.outcome;
         let state = p.mixer;
         EnginePlayed {

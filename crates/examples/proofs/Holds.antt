@@ -9,7 +9,7 @@ use Rattle.fm.specs.Fm.{tableSine, tableSample, offsetOf, startedFm, fmSample}
 use Rattle.output.specs.Duty.{duty}
 use Rattle.output.proofs.Laws.{duty-of-2}
 use mathlib.Core.Option.{orElse}
-use Rattle.allocate.specs.Allocation.{allocated}
+use Rattle.allocate.specs.Allocation.{allocated, withRanks}
 use Rattle.bank.specs.Banks.{bankOf, lentBank, payloadUnder}
 use Rattle.bank.specs.Entries.{fieldsAt, entryAt}
 use Rattle.bank.specs.Search.{halving, countFrom, decided, foundIn}
@@ -17,10 +17,11 @@ use Rattle.engine.specs.Requests as E
 use Rattle.envelope.specs.Adsrs.{active}
 use Rattle.laws.specs.Lists.{only}
 use Rattle.mixer.specs.Mixers as M
-use Rattle.play.specs.Plays.{playedUnder}
+use Rattle.marks.specs.Marks.{older, settledBy, settled}
+use Rattle.play.specs.Plays.{played, playedUnder}
 use Rattle.ranking.specs.Falling.{inserted, falling}
 use Rattle.requests.specs.Players.{playedAll}
-use Rattle.ranking.specs.Rule.{firstWhere, noneBelow, firstFree, firstLowest, lowestPriority}
+use Rattle.ranking.specs.Rule.{firstWhere, noneBelow, firstFree, firstLowest, lowestPriority, lowestOldest, oldestLowest, noneOlder}
 use Rattle.sounder.specs.Requests as S
 use Rattle.start.specs.Starts.{startedVoice, startAt, entryStartUnder, requestStartUnder}
 use Rattle.tier.specs.Kinds.{kindOf}
@@ -42,11 +43,11 @@ unfolding duty heldTo
 duties = refl
 
 handed : (handings S.player twoVoices fourRequests ≡ places) × (remaining S.player twoVoices fourRequests ≡ 7 ∷ 5 ∷ [])
-unfolding M.opened M.fresh M.banked bankOf playedUnder playedAll allocated lowestPriority firstFree firstLowest firstWhere noneBelow orElse requestStartUnder foundIn lentBank decided halving countFrom entryAt fieldsAt kindOf entryStartUnder payloadUnder startAt startedEntry startedVoice triggeredVoice silentVoice audible activeSource active triggered beganDecay startedTone only falling inserted
+unfolding M.opened M.fresh M.banked bankOf playedUnder playedAll withRanks lowestOldest firstFree oldestLowest firstWhere noneBelow noneOlder orElse older settledBy settled requestStartUnder foundIn lentBank decided halving countFrom entryAt fieldsAt kindOf entryStartUnder payloadUnder startAt startedEntry startedVoice triggeredVoice silentVoice audible activeSource active triggered beganDecay startedTone only falling inserted
 handed = (refl, refl)
 
 handed-of-01 : (handings E.player twoVoices-of-01 fourRequests ≡ places-of-01) × (remaining E.player twoVoices-of-01 fourRequests ≡ 7 ∷ 5 ∷ [])
-unfolding M.opened M.fresh M.banked bankOf playedUnder playedAll allocated lowestPriority firstFree firstLowest firstWhere noneBelow orElse requestStartUnder foundIn lentBank decided halving countFrom entryAt fieldsAt kindOf entryStartUnder payloadUnder startAt startedEntry startedVoice triggeredVoice silentVoice audible activeSource active triggered beganDecay startedTone only falling inserted
+unfolding M.opened M.fresh M.banked bankOf played playedAll allocated lowestPriority firstFree firstLowest firstWhere noneBelow orElse requestStartUnder foundIn lentBank decided halving countFrom entryAt fieldsAt kindOf entryStartUnder payloadUnder startAt startedEntry startedVoice triggeredVoice silentVoice audible activeSource active triggered beganDecay startedTone only falling inserted
 handed-of-01 = (refl, refl)
 
 pub holds : Examples

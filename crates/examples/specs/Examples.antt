@@ -58,10 +58,11 @@ twoVoices = banked (opened 2 (configured 16000 1000 D.Linear) P.LowestPriorityOl
 abbrev pub fourRequests : List Request
 fourRequests = map (λ p. requestOf 7 clickSpec p) (3 ∷ 5 ∷ 5 ∷ 7 ∷ [])
 
--- "voices 0, 1, 0, 0": whom they get by the present rules, and by document 01's
+-- whom they get by the present rules: "In 01's request example the last 7 goes to voice 1"
 abbrev pub places : List (Option ℕ)
-places = some 0 ∷ some 1 ∷ some 0 ∷ some 0 ∷ []
+places = some 0 ∷ some 1 ∷ some 0 ∷ some 1 ∷ []
 
+-- and by document 01's: "voices 0, 1, 0, 0"
 abbrev pub places-of-01 : List (Option ℕ)
 places-of-01 = some 0 ∷ some 1 ∷ some 0 ∷ some 0 ∷ []
 
@@ -96,7 +97,8 @@ pub record Examples : Type 0 where
   pub duties : map (λ (s : ℤ). duty s 1000) (pos 127 ∷ pos 0 ∷ neg 128 ∷ []) ≡ 999 ∷ 500 ∷ 1 ∷ []
   -- "period 2: always 1"
   pub least : (s : ℤ) → duty s 2 ≡ 1
-  -- "two silent voices, requests 3, 5, 5, 7: voices 0, 1, 0, 0; priorities 7 and 5 remain", by the present rules and by document 01's
+  -- "two silent voices, requests 3, 5, 5, 7: voices 0, 1, 0, 0; priorities 7 and 5 remain"; by the present rules the last gets voice 1, the older of
+  -- the two of priority 5
   pub handed : handings S.player twoVoices fourRequests ≡ places
   pub remain : remaining S.player twoVoices fourRequests ≡ 7 ∷ 5 ∷ []
   pub handed-of-01 : handings E.player twoVoices-of-01 fourRequests ≡ places-of-01

@@ -1,21 +1,21 @@
 -- Marks that differ at most beside inaudible voices. Assumes nothing.
-use Prim.Native.Nat.{ℕ, zero, suc, _≤_}
+use Prim.Native.Nat.{ℕ, zero, suc, _≤_, _<_}
 use native.Mathlib.Omega.{arith}
-use mathlib.Core.Path.{_≡_, refl, sym, _∙_}
+use mathlib.Core.Path.{_≡_, refl, ap, sym, _∙_}
 use mathlib.Core.Bool.{Bool, true, false, cond}
-use mathlib.Core.List.{List, [], _∷_}
+use mathlib.Core.List.{List, [], _∷_, map}
 use lib.Dec.{eqb}
-use lib.ListN.{length, getD, set, length-set}
+use lib.ListN.{length, getD, set, length-set, length-map}
 use Rattle.envelope.proofs.Laws.{idle-inactive}
 use Rattle.envelope.specs.Adsrs as A
 use Rattle.laws.specs.Lists.{mapFirst}
 use Rattle.laws.proofs.Bools.{never}
-use Rattle.laws.proofs.Lists.{length-mapFirst}
-use Rattle.marks.specs.Marks.{beside, nothing, settledFirst, settled}
+use Rattle.laws.proofs.Lists.{getD-any, length-mapFirst}
+use Rattle.marks.specs.Marks.{Ordered, beside, nothing, ruleAt, rankAt, heardOf, heardAt, settled}
 use Rattle.marks.specs.declared.Mark.{Mark}
 use Rattle.marks.specs.declared.Marks.{Marks}
 use Rattle.marks.specs.declared.Present.{Present}
-use Rattle.marks.proofs.Laws.{settled-length}
+use Rattle.marks.proofs.Laws as K
 use Rattle.mixer.specs.declared.Mixer.{Mixer}
 use Rattle.voice.specs.Sources.{activeSource}
 use Rattle.voice.specs.Voices.{silentVoice, stoppedVoice, audible, tickedVoice, steppedVoice}
@@ -24,56 +24,40 @@ use Rattle.voice.proofs.Laws.{or-false, ticked-silent, stepped-idle}
 use Rattle.frame.specs.Fades.{takenOver, fadeEnded, fadeAt, nextT, advanced, marksEnded, marksAdvanced}
 use Rattle.frame.specs.Frames.{enveloped, sampled}
 
--- the same beside each voice that can be heard
-abbrev Same : List Voice → List Mark → List Mark → Type 0
-Same vs ks ls = (i : ℕ) → audible (getD vs i (silentVoice 0)) ≡ true → getD ks i nothing ≡ getD ls i nothing
-
+-- the same rules beside each voice that can be heard, and the same order of them
 pub record Alike (vs : List Voice) (k l : Marks) : Type 0 where
   pub master : k .master ≡ l .master
-  pub long : length (k .voices) ≡ length (l .voices)
-  pub same : Same vs (k .voices) (l .voices)
+  pub marks : K.Alike (map audible vs) (k .voices) (l .voices)
+
+-- so the same rules at each place
+rule-any : (k : Marks) (i : ℕ) → length (k .voices) ≡ 16 → i < 16 → ruleAt k i ≡ getD (k .voices) i nothing .whole
+rule-any k i e h = ap (λ (x : Mark). x .whole) (getD-any (k .voices) i (record { whole = false; rank = 0 }) nothing (omega arith))
+
+pub rule-alike : {vs : List Voice} {k l : Marks} → Alike vs k l → (i : ℕ) → length (k .voices) ≡ 16 → i < 16 → heardAt (map audible vs) i ≡ true → ruleAt k i ≡ ruleAt l i
+rule-alike {vs} {k} {l} s i e h g = rule-any k i e h ∙ s .marks .rule i g ∙ sym (rule-any l i (sym (s .marks .long) ∙ e) h)
+
+silent-unheard : audible (silentVoice 0) ≡ false
+unfolding audible silentVoice activeSource A.active
+silent-unheard = refl
+
+pub heard-voice : (vs : List Voice) (i : ℕ) → heardAt (map audible vs) i ≡ audible (getD vs i (silentVoice 0))
+heard-voice [] i = sym silent-unheard
+heard-voice (v ∷ vs) zero = refl
+heard-voice (v ∷ vs) (suc i) = heard-voice vs i
 
 -- ---- settling
-kept : (n : ℕ) (vs : List Voice) (ks : List Mark) → Same vs (settledFirst n vs ks) ks
-unfolding settledFirst
-kept zero vs ks i e = refl
-kept (suc n) [] ks i e = refl
-kept (suc n) (v ∷ vs) [] i e = refl
-kept (suc n) (v ∷ vs) (k ∷ ks) zero e = rw e
-kept (suc n) (v ∷ vs) (k ∷ ks) (suc i) e = kept n vs ks i e
-
 -- a settled state's marks and those before
-pub settling-alike : (p : Present) → Alike (p .mixer .voices) (settled p .marks) (p .marks)
+pub settling-alike : (p : Present) → length (p .mixer .voices) ≡ 16 → length (p .marks .voices) ≡ 16 → Alike (p .mixer .voices) (settled p .marks) (p .marks)
 unfolding settled
-settling-alike p =
-    record {
-      master = refl;
-      long = settled-length 16 (p .mixer .voices) (p .marks .voices);
-      same = kept 16 (p .mixer .voices) (p .marks .voices);
-    }
-
-beside-heard : (b : Bool) (k l : Mark) → (b ≡ true → k ≡ l) → cond b k nothing ≡ cond b l nothing
-beside-heard true k l h = h refl
-beside-heard false k l h = refl
-
-settled-same : (n : ℕ) (vs : List Voice) (ks ls : List Mark) → length ks ≡ length ls → length ks ≤ n → length ks ≤ length vs → Same vs ks ls
-    → settledFirst n vs ks ≡ settledFirst n vs ls
-unfolding settledFirst
-settled-same n vs [] [] e a b s = refl
-settled-same n vs [] (l ∷ ls) e a b s = absurd (omega arith)
-settled-same n vs (k ∷ ks) [] e a b s = absurd (omega arith)
-settled-same zero vs (k ∷ ks) (l ∷ ls) e a b s = absurd (omega arith)
-settled-same (suc n) [] (k ∷ ks) (l ∷ ls) e a b s = absurd (omega arith)
-settled-same (suc n) (v ∷ vs) (k ∷ ks) (l ∷ ls) e a b s =
-    let t : settledFirst n vs ks ≡ settledFirst n vs ls = settled-same n vs ks ls (omega arith) (omega arith) (omega arith) (λ i. s (suc i)) in
-    rw (beside-heard (audible v) k l (s 0), t)
+settling-alike p e f =
+    record { master = refl; marks = K.settling-alike (heardOf p) (p .marks .voices) (length-map (p .mixer .voices) audible ∙ e ∙ sym f) }
 
 -- alike marks settle to the same
 pub alike-settled : (m : Mixer) {k l : Marks} → length (m .voices) ≡ 16 → length (k .voices) ≡ 16 → Alike (m .voices) k l
     → settled (beside m k) ≡ settled (beside m l)
 unfolding settled
 alike-settled m {k} {l} f e a =
-    rw (a .master, settled-same 16 (m .voices) (k .voices) (l .voices) (a .long) (omega arith) (omega arith) (a .same))
+    rw (a .master, K.alike-settled (map audible (m .voices)) (k .voices) (l .voices) (length-map (m .voices) audible ∙ f ∙ sym e) (a .marks))
 
 -- ---- what can be heard after a step could be before
 heard : (before after : Bool) → (before ≡ false → after ≡ false) → after ≡ true → before ≡ true
@@ -90,16 +74,69 @@ taken-unheard old new h =
     rw (or-false (activeSource (new .source)) (A.active (new .adsr)) h .0) (idle-inactive A.clickSpec (old .«sample_rate_hz»))
 
 -- ---- the fade's advance
-ended-same : (vs : List Voice) (ks ls : List Mark) → 2 ≤ length vs → 1 ≤ length ks → length ks ≡ length ls → Same vs ks ls
-    → let d = silentVoice 0 in
-    Same (set (set vs 0 (takenOver (getD vs 0 d) (getD vs 1 d))) 1 (stoppedVoice (getD vs 1 d))) (set ks 0 (getD ks 1 nothing)) (set ls 0 (getD ls 1 nothing))
-ended-same [] ks ls a b e s i h = absurd (omega arith)
-ended-same (v ∷ []) ks ls a b e s i h = absurd (omega arith)
-ended-same (v ∷ w ∷ vs) [] ls a b e s i h = absurd (omega arith)
-ended-same (v ∷ w ∷ vs) (k ∷ ks) [] a b e s i h = absurd (omega arith)
-ended-same (v ∷ w ∷ vs) (k ∷ ks) (l ∷ ls) a b e s zero h = s 1 (heard (audible w) (audible (takenOver v w)) (taken-unheard v w) h)
-ended-same (v ∷ w ∷ vs) (k ∷ ks) (l ∷ ls) a b e s (suc zero) h = never (sym (stopped-unheard w) ∙ h)
-ended-same (v ∷ w ∷ vs) (k ∷ ks) (l ∷ ls) a b e s (suc (suc i)) h = s (suc (suc i)) h
+-- where a place's mark was before a fade's end
+moved : ℕ → ℕ
+moved zero = 1
+moved (suc i) = suc i
+
+ended : List Voice → List Voice
+ended vs = let d = silentVoice 0 in set (set vs 0 (takenOver (getD vs 0 d) (getD vs 1 d))) 1 (stoppedVoice (getD vs 1 d))
+
+ended-mark : (ks : List Mark) (i : ℕ) → 1 ≤ length ks → getD (set ks 0 (getD ks 1 nothing)) i nothing ≡ getD ks (moved i) nothing
+unfolding moved
+ended-mark [] i h = absurd (omega arith)
+ended-mark (k ∷ ks) zero h = refl
+ended-mark (k ∷ ks) (suc i) h = refl
+
+ended-rank : (ks : List Mark) (i : ℕ) → 1 ≤ length ks → rankAt (set ks 0 (getD ks 1 nothing)) i ≡ rankAt ks (moved i)
+ended-rank ks i h = ap (λ (k : Mark). k .rank) (ended-mark ks i h)
+
+ended-heard : (vs : List Voice) (i : ℕ) → 2 ≤ length vs → heardAt (map audible (ended vs)) i ≡ true → heardAt (map audible vs) (moved i) ≡ true
+unfolding moved ended
+ended-heard [] i a h = absurd (omega arith)
+ended-heard (v ∷ []) i a h = absurd (omega arith)
+ended-heard (v ∷ w ∷ vs) zero a h = heard (audible w) (audible (takenOver v w)) (taken-unheard v w) h
+ended-heard (v ∷ w ∷ vs) (suc zero) a h = never (sym (stopped-unheard w) ∙ h)
+ended-heard (v ∷ w ∷ vs) (suc (suc i)) a h = h
+
+-- voice 1 is not heard after it, so no two places have their mark from one
+ended-apart : (vs : List Voice) (i j : ℕ) → 2 ≤ length vs → heardAt (map audible (ended vs)) i ≡ true → heardAt (map audible (ended vs)) j ≡ true → moved i ≡ moved j → i ≡ j
+unfolding moved ended
+ended-apart [] i j a h g e = absurd (omega arith)
+ended-apart (v ∷ []) i j a h g e = absurd (omega arith)
+ended-apart (v ∷ w ∷ vs) zero zero a h g e = refl
+ended-apart (v ∷ w ∷ vs) zero (suc zero) a h g e = never (sym (stopped-unheard w) ∙ g)
+ended-apart (v ∷ w ∷ vs) zero (suc (suc j)) a h g e = absurd (omega arith)
+ended-apart (v ∷ w ∷ vs) (suc zero) zero a h g e = never (sym (stopped-unheard w) ∙ h)
+ended-apart (v ∷ w ∷ vs) (suc (suc i)) zero a h g e = absurd (omega arith)
+ended-apart (v ∷ w ∷ vs) (suc i) (suc j) a h g e = e
+
+ended-order : (vs : List Voice) (ks : List Mark) → 2 ≤ length vs → 1 ≤ length ks → Ordered (map audible vs) ks
+    → Ordered (map audible (ended vs)) (set ks 0 (getD ks 1 nothing))
+ended-order vs ks a b o =
+    record {
+      has = λ i h. rw (ended-rank ks i b) (o .has (moved i) (ended-heard vs i a h));
+      apart =
+          λ i j h g e.
+          ended-apart vs i j a h g
+          (o .apart (moved i) (moved j) (ended-heard vs i a h) (ended-heard vs j a g) (sym (ended-rank ks i b) ∙ e ∙ ended-rank ks j b));
+    }
+
+ended-alike : (vs : List Voice) (ks ls : List Mark) → 2 ≤ length vs → 1 ≤ length ks → K.Alike (map audible vs) ks ls
+    → K.Alike (map audible (ended vs)) (set ks 0 (getD ks 1 nothing)) (set ls 0 (getD ls 1 nothing))
+ended-alike vs ks ls a b s =
+    let c : 1 ≤ length ls = omega (arith, s .long) in
+    record {
+      long = simp length-set (s .long);
+      rule =
+          λ i h.
+          ap (λ (k : Mark). k .whole) (ended-mark ks i b)
+          ∙ s .rule (moved i) (ended-heard vs i a h)
+          ∙ sym (ap (λ (k : Mark). k .whole) (ended-mark ls i c));
+      order =
+          λ i j h g.
+          rw (ended-rank ks i b, ended-rank ks j b, ended-rank ls i c, ended-rank ls j c) (s .order (moved i) (moved j) (ended-heard vs i a h) (ended-heard vs j a g));
+    }
 
 pub marks-full : (m : Mixer) (k : Marks) → length (marksAdvanced m k .voices) ≡ length (k .voices)
 unfolding marksAdvanced
@@ -110,31 +147,36 @@ marks-full m k = go (m .«crossfade_active») (eqb (nextT m) 255)
     go true false = refl
     go false e = refl
 
-pub advanced-alike : (m : Mixer) (k l : Marks) → length (m .voices) ≡ 16 → length (k .voices) ≡ 16 → Alike (m .voices) k l
-    → Alike (advanced m .voices) (marksAdvanced m k) (marksAdvanced m l)
-unfolding advanced marksAdvanced fadeEnded fadeAt
-advanced-alike m k l f e s = go (m .«crossfade_active») (eqb (nextT m) 255)
-  where
-    ended : Alike (fadeEnded m .voices) (marksEnded k) (marksEnded l)
-    ended =
-        record {
-          master = s .master;
-          long = simp length-set (s .long);
-          same = ended-same (m .voices) (k .voices) (l .voices) (omega arith) (omega arith) (s .long) (s .same);
-        }
+module _ (m : Mixer) (k : Marks) (f : length (m .voices) ≡ 16) (e : length (k .voices) ≡ 16) where
+  pub advanced-alike : (l : Marks) → Alike (m .voices) k l → Alike (advanced m .voices) (marksAdvanced m k) (marksAdvanced m l)
+  unfolding advanced marksAdvanced fadeEnded fadeAt ended
+  advanced-alike l s = go (m .«crossfade_active») (eqb (nextT m) 255)
+    where
+      over : Alike (fadeEnded m .voices) (marksEnded k) (marksEnded l)
+      over = record { master = s .master; marks = ended-alike (m .voices) (k .voices) (l .voices) (omega arith) (omega arith) (s .marks) }
 
-    go : (a b : Bool)
-        → Alike (cond a (cond b (fadeEnded m) (fadeAt m (nextT m))) m .voices) (cond a (cond b (marksEnded k) k) k) (cond a (cond b (marksEnded l) l) l)
-    go true true = ended
-    go true false = s
-    go false b = s
+      go : (a b : Bool)
+          → Alike (cond a (cond b (fadeEnded m) (fadeAt m (nextT m))) m .voices) (cond a (cond b (marksEnded k) k) k) (cond a (cond b (marksEnded l) l) l)
+      go true true = over
+      go true false = s
+      go false b = s
+
+  pub advanced-order : Ordered (map audible (m .voices)) (k .voices) → Ordered (map audible (advanced m .voices)) (marksAdvanced m k .voices)
+  unfolding advanced marksAdvanced fadeEnded fadeAt ended
+  advanced-order o = go (m .«crossfade_active») (eqb (nextT m) 255)
+    where
+      go : (a b : Bool)
+          → Ordered (map audible (cond a (cond b (fadeEnded m) (fadeAt m (nextT m))) m .voices)) (cond a (cond b (marksEnded k) k) k .voices)
+      go true true = ended-order (m .voices) (k .voices) (omega arith) (omega arith) o
+      go true false = o
+      go false b = o
 
 -- ---- the rest of a frame: all n voices are ticked, the first c sampled
 step : Voice → Voice
 step v = steppedVoice v .voice
 
-framed-unheard : (c n : ℕ) (vs : List Voice) (i : ℕ) → c ≤ n → audible (getD vs i (silentVoice 0)) ≡ false
-    → audible (getD (mapFirst step c (mapFirst tickedVoice n vs)) i (silentVoice 0)) ≡ false
+framed-unheard : (c n : ℕ) (vs : List Voice) (i : ℕ) → c ≤ n → heardAt (map audible vs) i ≡ false
+    → heardAt (map audible (mapFirst step c (mapFirst tickedVoice n vs))) i ≡ false
 unfolding step
 framed-unheard zero zero vs i h e = e
 framed-unheard (suc c) zero vs i h e = absurd (omega arith)
@@ -145,20 +187,28 @@ framed-unheard (suc c) (suc n) (v ∷ vs) zero h e = let t = ticked-silent v e i
 framed-unheard zero (suc n) (v ∷ vs) (suc i) h e = framed-unheard zero n vs i (omega arith) e
 framed-unheard (suc c) (suc n) (v ∷ vs) (suc i) h e = framed-unheard c n vs i (omega arith) e
 
-pub framed-alike : (c : ℕ) (m : Mixer) {k l : Marks} → c ≤ m .n → Alike (m .voices) k l → Alike (sampled c (enveloped m) .voices) k l
+framed-heard : (c : ℕ) (m : Mixer) (i : ℕ) → c ≤ m .n → heardAt (map audible (sampled c (enveloped m) .voices)) i ≡ true → heardAt (map audible (m .voices)) i ≡ true
 unfolding sampled enveloped step
+framed-heard c m i h e =
+    heard (heardAt (map audible (m .voices)) i)
+    (heardAt (map audible (mapFirst step c (mapFirst tickedVoice (m .n) (m .voices)))) i)
+    (framed-unheard c (m .n) (m .voices) i h)
+    e
+
+pub framed-alike : (c : ℕ) (m : Mixer) {k l : Marks} → c ≤ m .n → Alike (m .voices) k l → Alike (sampled c (enveloped m) .voices) k l
 framed-alike c m h s =
     record {
       master = s .master;
-      long = s .long;
-      same =
-          λ i e.
-          s .same i
-          (heard (audible (getD (m .voices) i (silentVoice 0)))
-          (audible (getD (mapFirst step c (mapFirst tickedVoice (m .n) (m .voices))) i (silentVoice 0)))
-          (framed-unheard c (m .n) (m .voices) i h)
-          e);
+      marks =
+          record {
+            long = s .marks .long;
+            rule = λ i e. s .marks .rule i (framed-heard c m i h e);
+            order = λ i j e g. s .marks .order i j (framed-heard c m i h e) (framed-heard c m j h g);
+          };
     }
+
+pub framed-order : (c : ℕ) (m : Mixer) (ks : List Mark) → c ≤ m .n → Ordered (map audible (m .voices)) ks → Ordered (map audible (sampled c (enveloped m) .voices)) ks
+framed-order c m ks h o = K.fewer-order o (λ i e. framed-heard c m i h e)
 
 pub framed-full : (c : ℕ) (m : Mixer) → length (sampled c (enveloped m) .voices) ≡ length (m .voices)
 unfolding sampled enveloped

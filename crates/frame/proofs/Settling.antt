@@ -9,7 +9,6 @@ use lib.IntN.{ℤ}
 use lib.ListN.{length, getD}
 use lib.Seq.{getD-take, length-take-le}
 use Rattle.marks.specs.Marks.{beside, settled, ruleAt}
-use Rattle.marks.specs.declared.Mark.{Mark}
 use Rattle.marks.specs.declared.Marks.{Marks}
 use Rattle.marks.specs.declared.Present.{Present}
 use Rattle.mixer.specs.Mixers as M
@@ -25,7 +24,7 @@ use Rattle.frame.specs.Presents.{monoNext, dutyNext, stereoNext, pcmOf, 
 use Rattle.frame.specs.declared.MonoFrame.{MonoFrame}
 use Rattle.frame.specs.declared.StereoFrame.{StereoFrame}
 use Rattle.frame.specs.declared.DutyFrame.{DutyFrame}
-use Rattle.frame.proofs.Alike.{Alike, settling-alike, alike-settled, marks-full, advanced-alike, framed-alike, framed-full}
+use Rattle.frame.proofs.Alike.{Alike, heard-voice, rule-alike, settling-alike, alike-settled, marks-full, advanced-alike, framed-alike, framed-full}
 use Rattle.frame.proofs.Sized.{Sized, Ready, sized-advanced, sized-enveloped, sampled-few, mono-ready, duty-ready, stereo-ready}
 use Rattle.frame.proofs.Voices.{getD-mapFirst}
 
@@ -47,12 +46,12 @@ module _ {B : Type 0} (f : Bool → Voice → B) (idle : (a b : Bool) (v : Voice
       go true e = rw (h e)
       go false e = idle a b (tickedVoice v) (ticked-silent v e .1)
 
-  module _ {m : Mixer} {k l : Marks} (h : Sized m) (s : Alike (m .voices) k l) where
+  module _ {m : Mixer} {k l : Marks} (h : Sized m) (full : length (k .voices) ≡ 16) (s : Alike (m .voices) k l) where
     one-same : (i : ℕ) → i < m .n → f (ruleAt k i) (voiceAt (enveloped m) i) ≡ f (ruleAt l i) (voiceAt (enveloped m) i)
     unfolding enveloped
     one-same i b =
         rw (getD-mapFirst tickedVoice (m .n) i (m .voices) (silentVoice 0) b (omega (arith, h .few, h .full)))
-        (ticked-any (ruleAt k i) (ruleAt l i) (voiceAt m i) (λ e. ap (λ (x : Mark). x .whole) (s .same i e)))
+        (ticked-any (ruleAt k i) (ruleAt l i) (voiceAt m i) (λ e. rule-alike s i full (omega (arith, h .few)) (heard-voice (m .voices) i ∙ e)))
 
     all-same : let vs = M.voicesOf (enveloped m) in mapAt (λ i v. f (ruleAt k i) v) 0 vs ≡ mapAt (λ i v. f (ruleAt l i) v) 0 vs
     unfolding enveloped
@@ -69,9 +68,9 @@ sample-any a b v e = sample-idle a v e ∙ sym (sample-idle b v e)
 pair-any : (a b : Bool) (v : Voice) → v .source ≡ S.Idle → pairBy a v ≡ pairBy b v
 pair-any a b v e = pair-idle a v e ∙ sym (pair-idle b v e)
 
-mix-same : {m : Mixer} {k l : Marks} → Sized m → Alike (m .voices) k l → monoMix k (enveloped m) ≡ monoMix l (enveloped m)
+mix-same : {m : Mixer} {k l : Marks} → Sized m → length (k .voices) ≡ 16 → Alike (m .voices) k l → monoMix k (enveloped m) ≡ monoMix l (enveloped m)
 unfolding monoMix enveloped
-mix-same {m} {k} {l} h s = go (m .«crossfade_active») refl
+mix-same {m} {k} {l} h full s = go (m .«crossfade_active») refl
   where
     mixed : Bool → Marks → ℤ
     mixed a r =
@@ -79,20 +78,20 @@ mix-same {m} {k} {l} h s = go (m .«crossfade_active») refl
         cond a (crossed (b .«crossfade_t_q8») (sampleBy (ruleAt r 0) (voiceAt b 0)) (sampleBy (ruleAt r 1) (voiceAt b 1))) (averaged (samplesOf r (M.voicesOf b)))
 
     one : (i : ℕ) → i < m .n → sampleBy (ruleAt k i) (voiceAt (enveloped m) i) ≡ sampleBy (ruleAt l i) (voiceAt (enveloped m) i)
-    one = one-same sampleBy sample-any h s
+    one = one-same sampleBy sample-any h full s
 
     go : (a : Bool) → m .«crossfade_active» ≡ a → mixed a k ≡ mixed a l
     go true e = let two = h .fade e in rw (one 0 (omega arith), one 1 (omega arith))
-    go false e = rw (all-same sampleBy sample-any h s)
+    go false e = rw (all-same sampleBy sample-any h full s)
 
 -- ---- alike marks give one frame
 module _ {m : Mixer} {k l : Marks} (h : Sized m) (full : length (k .voices) ≡ 16) (s : Alike (m .voices) k l) where
   after : Alike (advanced m .voices) (marksAdvanced m k) (marksAdvanced m l)
-  after = advanced-alike m k l (h .full) full s
+  after = advanced-alike m k (h .full) full l s
 
   mono-same : monoFrameBy k m ≡ monoFrameBy l m
   unfolding monoFrameBy
-  mono-same = rw (mix-same (sized-advanced h) after, after .master)
+  mono-same = rw (mix-same (sized-advanced h) (marks-full m k ∙ full) after, after .master)
 
   duty-same : dutyFrameBy k m ≡ dutyFrameBy l m
   unfolding dutyFrameBy
@@ -100,7 +99,7 @@ module _ {m : Mixer} {k l : Marks} (h : Sized m) (full : length (k .voices) ≡ 
 
   stereo-same : stereoFrameBy k m ≡ stereoFrameBy l m
   unfolding stereoFrameBy
-  stereo-same = rw (all-same pairBy pair-any (sized-advanced h) after, after .master)
+  stereo-same = rw (all-same pairBy pair-any (sized-advanced h) (marks-full m k ∙ full) after, after .master)
 
   -- and settle to the same after it
   after-settled : (c : ℕ) (f g : Mixer) → c ≤ advanced m .n → f ≡ g → g .voices ≡ sampled c (enveloped (advanced m)) .voices
@@ -128,8 +127,8 @@ module _ {m : Mixer} {k l : Marks} (h : Sized m) (full : length (k .voices) ≡ 
   stereo-next = after-settled (advanced m .n) (stereoFrameBy k m .mixer) (stereoFrameBy l m .mixer) (omega arith) refl refl
 
 -- ---- the frames of a state
-settled-full : (p : Present) → length (p .marks .voices) ≡ 16 → length (settled p .marks .voices) ≡ 16
-settled-full p e = settling-alike p .long ∙ e
+settled-full : (p : Present) → Ready p → length (settled p .marks .voices) ≡ 16
+settled-full p h = settling-alike p (h .sized .full) (h .marked) .marks .long ∙ h .marked
 
 -- a frame of a state that was settled before it, and cells that are made of what the frame gives
 module _ {A : Type 0} where
@@ -141,20 +140,20 @@ module _ {A : Type 0} where
   pub mono-still : (cell : ℤ → List A) (p : Present) → Ready p → Still monoNext (λ p. cell (pcmOf p)) p
   unfolding settled
   mono-still cell p h =
-      let f = settled-full p (h .marked) in
-      let s = settling-alike p in
+      let f = settled-full p h in
+      let s = settling-alike p (h .sized .full) (h .marked) in
       record { state = mono-next (h .sized) f s; cells = ap (λ (x : MonoFrame). cell (x .pcm)) (mono-same (h .sized) f s); keeps = mono-ready p h }
 
   pub duty-still : (cell : ℕ → List A) (p : Present) → Ready p → Still dutyNext (λ p. cell (dutyOf p)) p
   unfolding settled
   duty-still cell p h =
-      let f = settled-full p (h .marked) in
-      let s = settling-alike p in
+      let f = settled-full p h in
+      let s = settling-alike p (h .sized .full) (h .marked) in
       record { state = duty-next (h .sized) f s; cells = ap (λ (x : DutyFrame). cell (x .duty)) (duty-same (h .sized) f s); keeps = duty-ready p h }
 
   pub stereo-still : (cell : ℤ → ℤ → List A) (p : Present) → Ready p → Still stereoNext (λ p. cell (leftSide p) (rightSide p)) p
   unfolding settled
   stereo-still cell p h =
-      let f = settled-full p (h .marked) in
-      let s = settling-alike p in
+      let f = settled-full p h in
+      let s = settling-alike p (h .sized .full) (h .marked) in
       record { state = stereo-next (h .sized) f s; cells = ap (λ (x : StereoFrame). cell (x .left) (x .right)) (stereo-same (h .sized) f s); keeps = stereo-ready p h }

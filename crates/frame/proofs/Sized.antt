@@ -3,6 +3,7 @@ use Prim.Native.Nat.{ℕ, _≤_}
 use native.Mathlib.Omega.{arith}
 use mathlib.Core.Path.{_≡_, refl, ap, _∙_}
 use mathlib.Core.Bool.{Bool, true, false, cond}
+use mathlib.Core.List.{map}
 use lib.Dec.{eqb}
 use lib.ListN.{length, length-set}
 use Rattle.laws.proofs.Bools.{never}
@@ -10,11 +11,11 @@ use Rattle.laws.proofs.Lists.{length-mapFirst}
 use Rattle.marks.specs.Marks as K
 use Rattle.marks.specs.declared.Present.{Present}
 use Rattle.mixer.specs.declared.Mixer.{Mixer}
-use Rattle.voice.specs.Voices.{tickedVoice}
-use Rattle.frame.specs.Fades.{fadeEnded, fadeAt, nextT, advanced}
+use Rattle.voice.specs.Voices.{audible, tickedVoice}
+use Rattle.frame.specs.Fades.{fadeEnded, fadeAt, nextT, advanced, marksAdvanced}
 use Rattle.frame.specs.Frames.{enveloped, sampled, sampledCount, monoFrameBy, dutyFrameBy, stereoFrameBy}
 use Rattle.frame.specs.Presents.{monoNext, dutyNext, stereoNext}
-use Rattle.frame.proofs.Alike.{marks-full, framed-full}
+use Rattle.frame.proofs.Alike.{marks-full, framed-full, advanced-order, framed-order}
 
 pub record Sized (m : Mixer) : Type 0 where
   pub few : m .n ≤ 16
@@ -51,10 +52,11 @@ sampled-few {m} h = go (m .«crossfade_active») refl
 pub record Ready (p : Present) : Type 0 where
   pub sized : Sized (p .mixer)
   pub marked : length (p .marks .voices) ≡ 16
+  pub order : K.Ordered (K.heardOf p) (p .marks .voices)
 
 pub valid-ready : (p : Present) → K.Valid p → Ready p
 valid-ready p v =
-    record { sized = record { few = v .inside .few; full = v .inside .full; fade = λ a. v .inside .fade a .0 }; marked = v .full }
+    record { sized = record { few = v .inside .few; full = v .inside .full; fade = λ a. v .inside .fade a .0 }; marked = v .full; order = v .order }
 
 module _ (p : Present) (h : Ready p) where
   sampled-sized : (c : ℕ) → Sized (sampled c (enveloped (advanced (p .mixer))))
@@ -63,16 +65,34 @@ module _ (p : Present) (h : Ready p) where
       let a = sized-advanced (h .sized) in
       record { few = a .few; full = framed-full c (advanced (p .mixer)) ∙ a .full; fade = a .fade }
 
+  framed-ordered : (c : ℕ) → c ≤ advanced (p .mixer) .n
+      → K.Ordered (map audible (sampled c (enveloped (advanced (p .mixer))) .voices)) (marksAdvanced (p .mixer) (p .marks) .voices)
+  framed-ordered c l =
+      framed-order c (advanced (p .mixer)) (marksAdvanced (p .mixer) (p .marks) .voices) l (advanced-order (p .mixer) (p .marks) (h .sized .full) (h .marked) (h .order))
+
+  few : sampledCount (enveloped (advanced (p .mixer))) ≤ advanced (p .mixer) .n
+  unfolding enveloped
+  few = sampled-few (sized-enveloped (sized-advanced (h .sized)))
+
   pub mono-ready : Ready (monoNext p)
   unfolding monoFrameBy
-  mono-ready = record { sized = sampled-sized (sampledCount (enveloped (advanced (p .mixer)))); marked = marks-full (p .mixer) (p .marks) ∙ h .marked }
+  mono-ready =
+      let c = sampledCount (enveloped (advanced (p .mixer))) in
+      record { sized = sampled-sized c; marked = marks-full (p .mixer) (p .marks) ∙ h .marked; order = framed-ordered c few }
 
   pub duty-ready : Ready (dutyNext p)
   unfolding dutyFrameBy monoFrameBy
   duty-ready =
-      let s = sampled-sized (sampledCount (enveloped (advanced (p .mixer)))) in
-      record { sized = record { few = s .few; full = s .full; fade = s .fade }; marked = marks-full (p .mixer) (p .marks) ∙ h .marked }
+      let c = sampledCount (enveloped (advanced (p .mixer))) in
+      let s = sampled-sized c in
+      record {
+        sized = record { few = s .few; full = s .full; fade = s .fade };
+        marked = marks-full (p .mixer) (p .marks) ∙ h .marked;
+        order = framed-ordered c few;
+      }
 
   pub stereo-ready : Ready (stereoNext p)
   unfolding stereoFrameBy enveloped
-  stereo-ready = record { sized = sampled-sized (advanced (p .mixer) .n); marked = marks-full (p .mixer) (p .marks) ∙ h .marked }
+  stereo-ready =
+      let c = advanced (p .mixer) .n in
+      record { sized = sampled-sized c; marked = marks-full (p .mixer) (p .marks) ∙ h .marked; order = framed-ordered c (omega arith) }

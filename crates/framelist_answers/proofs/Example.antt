@@ -7,7 +7,7 @@ use Rattle.frame.specs.Places.{mapAt}
 use Rattle.hex.specs.Hex.{between, allDigits, digitOf, hexOf}
 use Rattle.laws.specs.Runs.{after, given}
 use Rattle.laws.specs.Whole.{heldTo}
-use Rattle.marks.specs.Marks.{settledFirst, settled}
+use Rattle.marks.specs.Marks.{older, settledBy, settled}
 use Rattle.mixer.specs.Mixers as M
 use Rattle.output.specs.Duty.{duty, mapped}
 use Rattle.play.specs.Plays as P
@@ -20,5 +20,5 @@ use Rattle.framelist_answers.specs.Example.{exampleLines, exampleText}
 use Rattle.framelist_answers.specs.Lines.{started, lineAnswer, printed, framelist}
 
 pub prints : framelist exampleLines ≡ exampleText
-unfolding A.active A.beganDecay A.triggered A.nextLevel A.advancedToward A.ticked advanced marksAdvanced enveloped sampled total givenCount averaged monoMix monoFrameBy dutyFrameBy mapAt between allDigits digitOf hexOf after given heldTo settledFirst settled M.fresh M.opened duty mapped P.firstSounding P.toned startedVoice toneVoice durationOf lessOne startedTone steppedTone activeSource steppedSource silentVoice triggeredVoice audible tickedVoice steppedVoice sampleBy started lineAnswer printed
+unfolding A.active A.beganDecay A.triggered A.nextLevel A.advancedToward A.ticked advanced marksAdvanced enveloped sampled total givenCount averaged monoMix monoFrameBy dutyFrameBy mapAt between allDigits digitOf hexOf after given heldTo older settledBy settled M.fresh M.opened duty mapped P.firstSounding P.toned startedVoice toneVoice durationOf lessOne startedTone steppedTone activeSource steppedSource silentVoice triggeredVoice audible tickedVoice steppedVoice sampleBy started lineAnswer printed
 prints = refl

@@ -1,12 +1,10 @@
--- The two rules of a payload's refusal (document 02, T-06) differ in its number alone: the same request gets the same voice, and the same state is
--- left, also by a fade. Assumes nothing.
+-- The two rules of a payload's refusal (document 02, T-06) differ in its number alone: a fade leaves the same state. Assumes nothing.
 use Prim.Native.Nat.{ℕ}
 use mathlib.Core.Path.{_≡_, refl, sym}
 use mathlib.Core.Option.{some}
 use mathlib.Core.Bool.{Bool, true, false, cond}
 use mathlib.Core.List.{List}
 use lib.Dec.{ltb}
-use Rattle.allocate.specs.Allocation.{allocated}
 use Rattle.bank.specs.Search.{foundGiven}
 use Rattle.bank.specs.declared.EffectEntry.{EffectEntry}
 use Rattle.envelope.specs.declared.AdsrSpec.{AdsrSpec}
@@ -14,32 +12,11 @@ use Rattle.error.specs.Told.{Told, value, refused, valueIn, passed}
 use Rattle.mixer.specs.Mixers.{unchanged, toldOutcome}
 use Rattle.mixer.specs.declared.Changed.{Changed}
 use Rattle.mixer.specs.declared.Mixer.{Mixer}
-use Rattle.start.specs.Starts.{requestStartUnder, entryStartUnder}
-use Rattle.start.specs.declared.Request.{Request}
-use Rattle.start.proofs.Laws.{request-value, entry-value}
+use Rattle.start.proofs.Laws.{entry-value}
 use Rattle.voice.specs.declared.Voice.{Voice}
 use Rattle.play.specs.Fades.{fadedBy, fadedTo, fadedUnder, firstReleased}
-use Rattle.play.specs.Plays.{placedBy, playedAt, playedUnder, toldPlay}
-use Rattle.play.specs.declared.Played.{Played}
 
--- what is played is the same but for a refusal's number
-pub record SamePlay (p q : Played) : Type 0 where
-  pub place : valueIn (toldPlay (p .outcome)) ≡ valueIn (toldPlay (q .outcome))
-  pub mixer : p .mixer ≡ q .mixer
-
-same-by : (m : Mixer) (place : Told ℕ) (s t : Told Voice) → valueIn s ≡ valueIn t → SamePlay (playedAt m (placedBy place s)) (playedAt m (placedBy place t))
-same-by m (refused n) s t e = record { place = refl; mixer = refl }
-same-by m (value i) (value x) (value y) e = let same : x ≡ y = cc in record { place = refl; mixer = rw same }
-same-by m (value i) (value x) (refused n) e = record { place = cc; mixer = cc }
-same-by m (value i) (refused k) (value y) e = record { place = cc; mixer = cc }
-same-by m (value i) (refused k) (refused n) e = record { place = refl; mixer = refl }
-
-pub same-play : (a b : Bool) (m : Mixer) (bytes : List ℕ) (r : Request) → SamePlay (playedUnder a m bytes r) (playedUnder b m bytes r)
-unfolding playedUnder
-same-play a b m bytes r =
-    same-by m (allocated m (r .priority)) (requestStartUnder a (m .bank) bytes r) (requestStartUnder b (m .bank) bytes r) (request-value a b (m .bank) bytes r)
-
--- and so is what a fade did
+-- what a fade did is the same but for a refusal's number
 pub record SameCall (c d : Changed) : Type 0 where
   pub done : valueIn (toldOutcome (c .outcome)) ≡ valueIn (toldOutcome (d .outcome))
   pub mixer : c .mixer ≡ d .mixer

@@ -2,7 +2,7 @@
 use Prim.Native.Nat.{ℕ, _<_}
 use mathlib.Core.Path.{_≡_, ap, sym, _∙_}
 use mathlib.Core.Bool.{Bool}
-use mathlib.Core.List.{List, map}
+use mathlib.Core.List.{List}
 use lib.ListN.{take, set}
 use Rattle.error.specs.Told.{Told, value, refused}
 use Rattle.error.proofs.Told.{value-is, not-refused, refusal-number}
@@ -13,10 +13,12 @@ use Rattle.start.specs.Starts.{requestStartUnder}
 use Rattle.start.specs.declared.Request.{Request}
 use Rattle.mixer.specs.Mixers.{withVoices}
 use Rattle.mixer.specs.declared.Mixer.{Mixer}
-use Rattle.allocate.specs.Allocation.{allocated}
-use Rattle.allocate.specs.Ranked.{rankOf, boundOf, lowestRank}
-use Rattle.allocate.proofs.Choice.{allocated-below}
-use Rattle.allocate.proofs.Ranked.{allocated-ranked}
+use Rattle.allocate.specs.Allocation.{allocatedIn}
+use Rattle.allocate.specs.Keys.{keysOf, boundOf, lowestKey}
+use Rattle.allocate.proofs.Choice.{given-below}
+use Rattle.allocate.proofs.Keyed.{keyed}
+use Rattle.marks.specs.Marks.{ValidIn}
+use Rattle.marks.specs.declared.Present.{Present}
 use Rattle.play.specs.Plays.{playedUnder, placedBy, toldPlay}
 use Rattle.play.specs.declared.Played.{Played}
 
@@ -36,27 +38,27 @@ pub record Kept (m : Mixer) (p : Played) (x : AudioError) : Type 0 where
   pub mixer : p .mixer ≡ m
   pub told : toldPlay (p .outcome) ≡ refused (numberOf x)
 
-module _ (parted : Bool) (m : Mixer) (bytes : List ℕ) (r : Request) where
-  -- the request's place and voice, by the ranks of m's voices
+module _ (present : Bool) (p : Present) (bytes : List ℕ) (r : Request) where
+  -- the request's place and voice, by the keys of the state's voices
   abbrev pub placed : List ℕ → Told (ℕ × Voice)
-  placed ranks = placedBy (lowestRank (take (m .n) ranks) (boundOf (m .«stealing_policy») (r .priority))) (requestStartUnder parted (m .bank) bytes r)
+  placed keys = placedBy (lowestKey (take (p .mixer .n) keys) (boundOf (p .mixer .«stealing_policy») (r .priority))) (requestStartUnder present (p .mixer .bank) bytes r)
 
-  by-allocation : (ranks : List ℕ) → ranks ≡ map rankOf (m .voices) → placed ranks ≡ placedBy (allocated m (r .priority)) (requestStartUnder parted (m .bank) bytes r)
-  by-allocation ranks e = rw (e, allocated-ranked m (r .priority))
+  module _ (h : ValidIn present p) (keys : List ℕ) (e : keys ≡ keysOf present (p .mixer .voices) (p .marks .voices)) where
+    by-allocation : placed keys ≡ placedBy (allocatedIn present p (r .priority)) (requestStartUnder present (p .mixer .bank) bytes r)
+    by-allocation = rw (e, keyed present p (r .priority) h)
 
-  pub placed-stored : (ranks : List ℕ) (i : ℕ) (v : Voice) → ranks ≡ map rankOf (m .voices) → placed ranks ≡ value (i, v)
-      → Stored m (playedUnder parted m bytes r) i v
-  unfolding playedUnder
-  placed-stored ranks i v e h =
-      let g = sym (by-allocation ranks e) ∙ h in
-      record {
-        mixer = rw g;
-        told = rw g;
-        place = allocated-below m (r .priority) i (both (allocated m (r .priority)) (requestStartUnder parted (m .bank) bytes r) i v g);
-      }
+    pub placed-stored : (i : ℕ) (v : Voice) → placed keys ≡ value (i, v) → Stored (p .mixer) (playedUnder present p bytes r) i v
+    unfolding playedUnder
+    placed-stored i v f =
+        let g = sym by-allocation ∙ f in
+        record {
+          mixer = rw g;
+          told = rw g;
+          place = given-below present p (r .priority) i (both (allocatedIn present p (r .priority)) (requestStartUnder present (p .mixer .bank) bytes r) i v g);
+        }
 
-  pub placed-kept : (ranks : List ℕ) (x : AudioError) → ranks ≡ map rankOf (m .voices) → placed ranks ≡ refused (numberOf x) → Kept m (playedUnder parted m bytes r) x
-  unfolding playedUnder
-  placed-kept ranks x e h =
-      let g = sym (by-allocation ranks e) ∙ h in
-      record { mixer = rw g; told = rw (g, refusal-number x) }
+    pub placed-kept : (x : AudioError) → placed keys ≡ refused (numberOf x) → Kept (p .mixer) (playedUnder present p bytes r) x
+    unfolding playedUnder
+    placed-kept x f =
+        let g = sym by-allocation ∙ f in
+        record { mixer = rw g; told = rw (g, refusal-number x) }

@@ -1,19 +1,20 @@
 -- Play requests, tone and PolyBLEP starts. Assumes nothing.
 use Prim.Native.Nat.{ℕ}
-use mathlib.Core.Bool.{Bool, false, cond}
+use mathlib.Core.Bool.{Bool, cond}
 use mathlib.Core.List.{List}
 use lib.Dec.{eqb}
 use lib.ListN.{set}
 use Rattle.error.specs.Numbers.{numberOf}
 use Rattle.error.specs.Told.{Told, value, refused, andThen, refusal}
 use Rattle.polyblep.specs.declared.PolyBlepWaveform.{PolyBlepWaveform}
-use Rattle.start.specs.Starts.{requestStartUnder, toneVoice, polyBlepVoice}
+use Rattle.start.specs.Starts.{requestStart, requestStartUnder, toneVoice, polyBlepVoice}
 use Rattle.start.specs.declared.Request.{Request}
 use Rattle.tone.specs.declared.Waveform.{Waveform}
 use Rattle.voice.specs.Voices as W
 use Rattle.voice.specs.declared.Voice.{Voice}
 use Rattle.mixer.specs.Mixers.{Valid, withVoices}
-use Rattle.allocate.specs.Allocation.{allocated}
+use Rattle.allocate.specs.Allocation.{allocated, allocatedIn}
+use Rattle.marks.specs.declared.Present.{Present}
 use Rattle.mixer.specs.declared.Mixer.{Mixer}
 use Rattle.play.specs.declared.Played.{Played}
 use Rattle.play.specs.declared.PlayOutcome.{PlayOutcome}
@@ -48,12 +49,13 @@ abbrev pub playedAt : Mixer → Told (ℕ × Voice) → Played
 playedAt m (refused n) = notPlayed m n
 playedAt m (value p) = record { outcome = P.Voice (p .0); mixer = withVoices m (set (m .voices) (p .0) (p .1)) }
 
-unfoldable pub playedUnder : Bool → Mixer → List ℕ → Request → Played
-playedUnder parted m bytes r = playedAt m (placedBy (allocated m (r .priority)) (requestStartUnder parted (m .bank) bytes r))
-
 -- by document 01
-abbrev pub played : Mixer → List ℕ → Request → Played
-played m bytes r = playedUnder false m bytes r
+unfoldable pub played : Mixer → List ℕ → Request → Played
+played m bytes r = playedAt m (placedBy (allocated m (r .priority)) (requestStart (m .bank) bytes r))
+
+-- what a request makes of the mixer's state by the rules of a box, true for the present one: which voice it gets, and the number of a payload that fails
+unfoldable pub playedUnder : Bool → Present → List ℕ → Request → Played
+playedUnder present p bytes r = playedAt (p .mixer) (placedBy (allocatedIn present p (r .priority)) (requestStartUnder present (p .mixer .bank) bytes r))
 
 -- "with N = 0 they do nothing, else voice 0 becomes" v
 unfoldable pub firstSounding : Mixer → Voice → Mixer

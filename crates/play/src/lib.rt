@@ -3,7 +3,7 @@ ghost use mathlib.Core.Path.{_≡_};
 ghost use Rattle.laws.specs.Made.{Made};
 ghost use Rattle.voice.specs.Voices as S;
 ghost use Rattle.mixer.specs.Mixers.{Valid};
-ghost use Rattle.play.specs.Plays.{ValidPlayed, playedUnder, firstSounding, toned, polyBleped};
+ghost use Rattle.play.specs.Plays.{ValidPlayed, played, firstSounding, toned, polyBleped};
 use allocate::Allocated;
 use error::AudioError;
 use mixer::Mixer;
@@ -40,9 +40,9 @@ fn first_sounding(m: Mixer, v: Voice) -> Mixer
     out
 }
 
-pub fn play_request(m: Mixer, bytes: &[u8], request: Request, parted: bool) -> Played
+pub fn play_request(m: Mixer, bytes: &[u8], request: Request) -> Played
     requires { ⌜ Valid m ⌝ }
-    ensures { λ r. ⌜ Made ValidPlayed (playedUnder parted m (now (bytes .entry)) request) r ⌝ }
+    ensures { λ r. ⌜ Made ValidPlayed (played m (now (bytes .entry)) request) r ⌝ }
 {
     let bank = m.bank;
     match allocate::allocate_voice(m, request.priority) {
@@ -50,7 +50,7 @@ pub fn play_request(m: Mixer, bytes: &[u8], request: Request, parted: bool) -> P
             outcome: PlayOutcome::Refused(AudioError::VoiceBusy),
             mixer: m,
         },
-        Allocated::Voice(i) => match start::start_request(bank, bytes, request, parted) {
+        Allocated::Voice(i) => match start::start_request(bank, bytes, request, false) {
             EntryStart::Refused(e) => Played {
                 outcome: PlayOutcome::Refused(e),
                 mixer: m,

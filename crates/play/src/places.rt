@@ -1,7 +1,7 @@
-// A play request's place and voice, for a caller that keeps the voices and their ranks: no state is copied.
+// A play request's place and voice, for a caller that keeps the voices and their keys: no state is copied.
 ghost use lib.ListN.{take};
 ghost use Rattle.error.specs.Told.{Answered};
-ghost use Rattle.allocate.specs.Ranked.{boundOf, lowestRank};
+ghost use Rattle.allocate.specs.Keys.{boundOf, lowestKey};
 ghost use Rattle.bank.specs.Banks.{ValidBank};
 ghost use Rattle.start.specs.Starts.{requestStartUnder};
 ghost use Rattle.play.specs.Plays.{ValidPlaced, placedBy, toldPlaced};
@@ -18,23 +18,23 @@ pub enum Placed {
     Refused(AudioError),
 }
 
-// Where the ranks are those of the N voices, what the play request makes (`play` Placing).
+// Where the keys are those of the N voices of a box, what its play request makes (`play` Placing); `present` for the box of the present rules.
 pub fn place(
-    ranks: &[u16],
+    keys: &[u16],
     n: usize,
     policy: VoiceStealingPolicy,
     bank: BankSet,
     bytes: &[u8],
     request: Request,
-    parted: bool,
+    present: bool,
 ) -> Placed
     requires { ⌜ ValidBank bank ⌝ }
-    ensures { λ r. ⌜ Answered toldPlaced ValidPlaced (placedBy (lowestRank (take n (now (ranks .entry))) (boundOf policy (request .priority))) (requestStartUnder parted bank (now (bytes .entry)) request)) r ⌝ }
+    ensures { λ r. ⌜ Answered toldPlaced ValidPlaced (placedBy (lowestKey (take n (now (keys .entry))) (boundOf policy (request .priority))) (requestStartUnder present bank (now (bytes .entry)) request)) r ⌝ }
 {
-    let bound = allocate::ranks::bound(policy, request.priority);
-    match allocate::ranks::lowest(ranks, n, bound) {
+    let bound = allocate::keys::bound(policy, request.priority);
+    match allocate::keys::lowest(keys, n, bound) {
         Allocated::None => Placed::Refused(AudioError::VoiceBusy),
-        Allocated::Voice(i) => match start::start_request(bank, bytes, request, parted) {
+        Allocated::Voice(i) => match start::start_request(bank, bytes, request, present) {
             EntryStart::Refused(e) => Placed::Refused(e),
             EntryStart::Voice(v) => Placed::Voice(i, v),
         },

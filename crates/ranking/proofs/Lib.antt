@@ -7,6 +7,7 @@
 --     Rule       document 01's rule is lawful: lowest-allowed
 --     Scans      the rule as loops compute it: free-scan, lowest-scan, with a loop's turns and its end
 --     Ranked     the rule as one search, by a rank for each voice: ranked-free, ranked-lowest, lowest-mapped
+--     Oldest     document 02's rule is lawful: oldest-allowed; one search finds it: ranked-oldest; where all are of one age it is document 01's: oldest-first
 pub mod Places
 pub mod Falling
 pub mod Ranks
@@ -15,3 +16,4 @@ pub mod Demand
 pub mod Rule
 pub mod Scans
 pub mod Ranked
+pub mod Oldest

@@ -16,7 +16,7 @@ use Rattle.laws.proofs.Lists.{all-imp}
 use Rattle.ranking.proofs.Places.{at-length}
 use Rattle.ranking.proofs.Falling.{le-or-gt}
 
-and-true : (s t : Bool) → (s && t) ≡ true → (s ≡ true) × (t ≡ true)
+pub and-true : (s t : Bool) → (s && t) ≡ true → (s ≡ true) × (t ≡ true)
 and-true true true e = (refl, refl)
 and-true true false e = absurd (false≢true e)
 and-true false t e = absurd (false≢true e)
@@ -40,7 +40,7 @@ module _ {Voice : Type 0} where
   where-same s t (v ∷ vs) h = rw (h v, where-same s t vs h)
 
   -- what is found passes, and where nothing is found nothing does
-  Found : (Voice → Bool) → List Voice → Option ℕ → Type 0
+  unfoldable pub Found : (Voice → Bool) → List Voice → Option ℕ → Type 0
   Found test vs none = All (λ v. test v ≡ false) vs
   Found test vs (some i) = (v : Voice) × (getElem? vs i ≡ some v) × (test v ≡ true)
 
@@ -49,7 +49,7 @@ module _ {Voice : Type 0} where
   found-on test v vs none e h = (e, h)
   found-on test v vs (some i) e h = h
 
-  found : (test : Voice → Bool) (vs : List Voice) → Found test vs (firstWhere test vs)
+  pub found : (test : Voice → Bool) (vs : List Voice) → Found test vs (firstWhere test vs)
   unfolding Found firstWhere
   found test [] = tt
   found test (v ∷ vs) = go (test v) refl (found test vs)
@@ -59,7 +59,7 @@ module _ {Voice : Type 0} where
       go false e h = found-on test v vs (firstWhere test vs) e h
 
 module _ {Voice : Type 0} (priority : Voice → ℕ) where
-  none-below-all : (k : ℕ) (vs : List Voice) → noneBelow priority k vs ≡ true → All (λ w. k ≤ priority w) vs
+  pub none-below-all : (k : ℕ) (vs : List Voice) → noneBelow priority k vs ≡ true → All (λ w. k ≤ priority w) vs
   unfolding noneBelow
   none-below-all k [] e = tt
   none-below-all k (v ∷ vs) e =

@@ -1,6 +1,7 @@
 -- No line of the account is longer than a text holds. Assumes nothing.
 use Prim.Native.Nat.{ℕ, _*_, _≤_}
 use mathlib.Core.Path.{refl}
+use mathlib.Core.Bool.{Bool, true, false}
 use mathlib.Core.List.{List, [], _++_}
 use native.Mathlib.Omega.{arith}
 use borrow.Author.Tests.{leb-true}
@@ -38,13 +39,18 @@ unfolding T.countText
 count-within head n name hz answer c h k =
     simp length-append (omega (arith, h, k, time-within c, things-within n name, decimal-within hz, end-within (byteAt answer 0)))
 
-taken-within : (v : VoiceRead) → length (T.takenText v) ≤ 42
-taken-within R.None = omega arith
-taken-within (R.Voice v) = either-within 42 (audible v) _ _ (simp length-append (omega (arith, decimal-within (v .priority)))) (omega arith)
+from-within : (present : Bool) (priority : ℕ) → length (T.fromText present priority) ≤ 56
+unfolding T.fromText
+from-within true priority = simp length-append (omega (arith, decimal-within priority))
+from-within false priority = simp length-append (omega (arith, decimal-within priority))
 
-voice-within : (e : OpenBox) (voice : ℕ) → length (T.voiceText e voice) ≤ 70
+taken-within : (present : Bool) (v : VoiceRead) → length (T.takenText present v) ≤ 56
+taken-within present R.None = omega arith
+taken-within present (R.Voice v) = either-within 56 (audible v) _ _ (from-within present (v .priority)) (omega arith)
+
+voice-within : (e : OpenBox) (voice : ℕ) → length (T.voiceText e voice) ≤ 84
 unfolding T.voiceText
-voice-within e voice = simp length-append (omega (arith, decimal-within voice, taken-within (voiceRead (mixerOf e) voice)))
+voice-within e voice = simp length-append (omega (arith, decimal-within voice, taken-within (e .present) (voiceRead (mixerOf e) voice)))
 
 outcome-within : (answer : List ℕ) (e : OpenBox) → length (T.outcomeText answer e) ≤ 89
 outcome-within answer e =

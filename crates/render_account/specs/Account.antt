@@ -1,6 +1,6 @@
 -- The account of a run: a line of text for each record that does something, and for each that is turned down. Assumes nothing.
 use Prim.Native.Nat.{ℕ, _*_}
-use mathlib.Core.Bool.{cond}
+use mathlib.Core.Bool.{Bool, cond}
 use mathlib.Core.List.{List, [], _++_}
 use lib.Dec.{eqb}
 use Rattle.config.specs.Config.{roundedUp, fadeStep}
@@ -68,14 +68,18 @@ presentText l answer c = countText (words "open a box of the present rules, ") (
 abbrev pub bankText : List ℕ → List ℕ → Clock → List ℕ
 bankText l answer c = countText (words "set a bank of ") (wideAt l 5) (words " sound") (longAt l 1) answer c
 
+-- "Among voices of equal lowest priority the oldest goes": true for a box of the present rules
+unfoldable pub fromText : Bool → ℕ → List ℕ
+fromText present priority = cond present (words ", taken from the oldest at priority ") (words ", taken from priority ") ++ decimal priority
+
 -- whose voice it was, where it was audible
-abbrev pub takenText : VoiceRead → List ℕ
-takenText R.None = []
-takenText (R.Voice v) = cond (audible v) (words ", taken from priority " ++ decimal (v .priority)) []
+abbrev pub takenText : Bool → VoiceRead → List ℕ
+takenText present R.None = []
+takenText present (R.Voice v) = cond (audible v) (fromText present (v .priority)) []
 
 -- the voice that a request got
 unfoldable pub voiceText : OpenBox → ℕ → List ℕ
-voiceText e voice = words ": voice " ++ decimal voice ++ takenText (voiceRead (mixerOf e) voice)
+voiceText e voice = words ": voice " ++ decimal voice ++ takenText (e .present) (voiceRead (mixerOf e) voice)
 
 -- what came of a request
 abbrev pub outcomeText : List ℕ → OpenBox → List ℕ

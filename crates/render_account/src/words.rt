@@ -60,6 +60,19 @@ pub(crate) fn ended(t: Text, number: u8) -> Text
     say(why(say(counted, b": "), number), b"\n")
 }
 
+// From whom a voice was taken: by the present rules the oldest of its priority.
+fn taken(t: Text, present: bool, priority: u8) -> Text
+    ensures { λ r. ⌜ Adds t (T.fromText present priority) r ⌝ }
+{
+    if present {
+        return count(
+            say(t, b", taken from the oldest at priority "),
+            priority as u64,
+        );
+    }
+    count(say(t, b", taken from priority "), priority as u64)
+}
+
 // The voice that a request got; where it was audible, whose it was.
 pub(crate) fn voiced(t: Text, e: OpenBox, voice: u8) -> Text
     requires { ⌜ ValidBox e ⌝ }
@@ -70,7 +83,7 @@ pub(crate) fn voiced(t: Text, e: OpenBox, voice: u8) -> Text
         VoiceRead::None => got,
         VoiceRead::Voice(v) => {
             if v.is_audible() {
-                return count(say(got, b", taken from priority "), v.priority as u64);
+                return taken(got, e.is_present(), v.priority);
             }
             got
         }

@@ -3,12 +3,15 @@
 use Prim.Native.Nat.{ℕ}
 use mathlib.Core.Bool.{Bool, true, false, cond}
 use mathlib.Core.List.{List}
+use lib.ListN.{replicate}
+use Rattle.allocate.specs.Allocation.{allocated, allocatedOldest}
 use Rattle.config.specs.declared.AudioConfig.{AudioConfig}
 use Rattle.engine.specs.Engines as E
 use Rattle.engine.specs.declared.AudioEngine.{AudioEngine}
 use Rattle.engine.specs.declared.EngineChanged.{EngineChanged}
 use Rattle.engine.specs.declared.EnginePlayed.{EnginePlayed}
 use Rattle.envelope.specs.declared.AdsrSpec.{AdsrSpec}
+use Rattle.error.specs.Told.{Told}
 use Rattle.mixer.specs.Mixers as M
 use Rattle.mixer.specs.declared.Mixer.{Mixer}
 use Rattle.mixer.specs.declared.VoiceStealingPolicy.{VoiceStealingPolicy}
@@ -16,6 +19,7 @@ use Rattle.play.specs.Fades as F
 use Rattle.play.specs.Plays as P
 use Rattle.polyblep.specs.declared.PolyBlepWaveform.{PolyBlepWaveform}
 use Rattle.sounder.specs.Calls as C
+use Rattle.sounder.specs.Calls.{ranksIn}
 use Rattle.sounder.specs.Sounders as S
 use Rattle.sounder.specs.declared.Sounder.{Sounder}
 use Rattle.sounder.specs.declared.SounderChanged.{SounderChanged}
@@ -39,6 +43,14 @@ ValidBoxPlayed p = ValidBox (p .held)
 -- the mixer's state in the box that is open
 unfoldable pub mixerOf : OpenBox → Mixer
 mixerOf b = cond (b .present) (b .sounder .state .mixer) (b .engine .state)
+
+-- the place that a request of this priority would get, by that box's rules
+unfoldable pub placeIn : OpenBox → ℕ → Told ℕ
+placeIn b priority = cond (b .present) (allocatedOldest (b .sounder .state) priority) (allocated (b .engine .state) priority)
+
+-- the ranks of its voices; document 01's has none
+unfoldable pub ranksOf : OpenBox → List ℕ
+ranksOf b = cond (b .present) (ranksIn (b .sounder .state)) (replicate 16 255)
 
 -- the open box after a call on it, alone and with what was told
 abbrev pub withEngine : OpenBox → AudioEngine → OpenBox

@@ -1,12 +1,12 @@
 // What a script asks of the box that it has open.
 ghost use mathlib.Core.Path.{_≡_};
-ghost use Rattle.allocate.specs.Allocation.{allocated, toldPlace};
+ghost use Rattle.allocate.specs.Allocation.{toldPlace};
 ghost use Rattle.bank.specs.Banks.{payloadUnder, toldPayload, payloadPart};
 ghost use Rattle.bank.specs.Entries.{toldEntry};
 ghost use Rattle.bank.specs.Search.{foundGiven};
 ghost use Rattle.frame.specs.Lasting.{framesLeft};
 ghost use Rattle.mixer.specs.Mixers as M;
-ghost use Rattle.replay_box.specs.Boxes.{ValidBox, mixerOf};
+ghost use Rattle.replay_box.specs.Boxes.{ValidBox, mixerOf, placeIn, ranksOf};
 use crate::OpenBox;
 use allocate::Allocated;
 use bank::EntryRead;
@@ -29,6 +29,13 @@ impl OpenBox {
         }
         let e = self.engine;
         e.state()
+    }
+
+    // Whether it is one of the present rules.
+    pub fn is_present(self) -> bool
+        ensures { λ r. ⌜ r ≡ self .present ⌝ }
+    {
+        self.present
     }
 
     pub fn voice(self, idx: usize) -> VoiceRead
@@ -104,7 +111,7 @@ impl OpenBox {
 
     pub fn allocate_voice(self, priority: u8) -> Allocated
         requires { ⌜ ValidBox self ⌝ }
-        ensures { λ r. ⌜ toldPlace r ≡ allocated (mixerOf self) priority ⌝ }
+        ensures { λ r. ⌜ toldPlace r ≡ placeIn self priority ⌝ }
     {
         if self.present {
             let s = self.sounder;
@@ -112,6 +119,17 @@ impl OpenBox {
         }
         let e = self.engine;
         e.allocate_voice(priority)
+    }
+
+    // The rank of each voice, 255 for one that has none.
+    pub fn ranks(self) -> [u8; 16]
+        ensures { λ r. ⌜ r ≡ ranksOf self ⌝ }
+    {
+        if self.present {
+            let s = self.sounder;
+            return s.ranks();
+        }
+        [255; 16]
     }
 
     pub fn find_by_id(self, bytes: &[u8], id: u16) -> EntryRead

@@ -1,4 +1,4 @@
--- The records 11, 13 to 1D, 2B, 2C, 30, 62 to 69 and 79: the length and the fields that each allows, the call that it makes, and the reply. Fields count
+-- The records 11, 13 to 1D, 2B, 2C, 30, 62 to 69, 79 and 7A: the length and the fields that each allows, the call that it makes, and the reply. Fields count
 -- from byte 1 on. Assumes nothing.
 use Prim.Native.Nat.{ℕ, _+_, _*_}
 use mathlib.Core.Bool.{Bool, false, cond, _&&_}
@@ -8,7 +8,6 @@ use lib.ListN.{length}
 use mir.Syntax.{w8, w16}
 use mir.Val.{ofZ}
 use Rattle.error.specs.Told.{Told, value, refused, numberIn}
-use Rattle.allocate.specs.Allocation.{allocated}
 use Rattle.bank.specs.Search.{foundGiven}
 use Rattle.bank.specs.declared.EffectEntry.{EffectEntry}
 use Rattle.mixer.specs.Mixers as M
@@ -19,7 +18,7 @@ use Rattle.frame.specs.Lasting.{framesLeft}
 use Rattle.play.specs.Plays.{toldPlay}
 use Rattle.play.specs.declared.PlayOutcome.{PlayOutcome}
 use Rattle.sounder.specs.Sounders.{requestOf}
-use Rattle.replay_box.specs.Boxes.{ValidBox, mixerOf, banked, played, faded, toned, polyBleped, panned, withMasterGain, stopped}
+use Rattle.replay_box.specs.Boxes.{ValidBox, mixerOf, placeIn, banked, played, faded, toned, polyBleped, panned, withMasterGain, stopped}
 use Rattle.replay_box.specs.Frames.{sampled, dutied, sided, wideSided}
 use Rattle.replay_box.specs.declared.OpenBox.{OpenBox}
 use Rattle.replay_box.specs.declared.BoxChanged.{BoxChanged}
@@ -69,7 +68,8 @@ allowed code l =
     (cond (eqb code 0x67) (sizedAs 0 l)
     (cond (eqb code 0x68) (sizedAs 0 l)
     (cond (eqb code 0x69) (sizedAs 1 l)
-    (cond (eqb code 0x79) (sizedAs 0 l) false)))))))))))))))))))))))
+    (cond (eqb code 0x79) (sizedAs 0 l)
+    (cond (eqb code 0x7A) (sizedAs 0 l) false))))))))))))))))))))))))
 
 -- "number: two digits, 00 where accepted, else the refusal number"
 abbrev pub outcomeReply : Outcome → Reply
@@ -138,7 +138,7 @@ searchCall l bytes e = asked (entryReply (foundGiven (mixerOf e .bank) bytes (wi
 
 -- 1C, allocate: "priority (1) | number (5 where there is none), voice"
 unfoldable pub allocateCall : List ℕ → OpenBox → Called
-allocateCall l e = asked (placeReply (allocated (mixerOf e) (byteAt l 1))) e
+allocateCall l e = asked (placeReply (placeIn e (byteAt l 1))) e
 
 -- 1D, is playing, audible count: "two numbers of 2 digits"
 unfoldable pub audibleCall : OpenBox → Called
@@ -188,6 +188,10 @@ wideStereoCall e = wideSidesCall (wideSided e)
 unfoldable pub fadeLeftCall : OpenBox → Called
 fadeLeftCall e = asked (R.Number (framesLeft (mixerOf e))) e
 
+-- 7A, ranks: "2 digits for each of the N voices, FF for one that has none"; a bad line on document 01's box
+unfoldable pub ranksCall : OpenBox → Called
+ranksCall e = asked (cond (e .present) R.Ranks R.Bad) e
+
 -- the records from 62 on. 64, 65 and 69 print what the box holds; 67 is one duty, as 2C is.
 unfoldable pub laterCall : ℕ → List ℕ → List ℕ → OpenBox → Called
 laterCall code l bytes e =
@@ -199,7 +203,8 @@ laterCall code l bytes e =
     (cond (eqb code 0x67) (dutyCall e)
     (cond (eqb code 0x68) (wideStereoCall e)
     (cond (eqb code 0x69) (asked (R.Voice (byteAt l 1)) e)
-    (cond (eqb code 0x79) (fadeLeftCall e) (asked R.Bad e)))))))))
+    (cond (eqb code 0x79) (fadeLeftCall e)
+    (cond (eqb code 0x7A) (ranksCall e) (asked R.Bad e))))))))))
 
 -- by the code. 1B and 30 print what the box holds.
 unfoldable pub callFor : ℕ → List ℕ → List ℕ → OpenBox → Called

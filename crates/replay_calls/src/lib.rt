@@ -7,7 +7,7 @@ ghost use Rattle.hex.specs.Hex.{byteAt};
 ghost use Rattle.allocate.specs.Allocation.{toldPlace};
 ghost use Rattle.bank.specs.Entries.{toldEntry};
 ghost use Rattle.replay_box.specs.Boxes.{ValidBox};
-ghost use Rattle.replay_calls.specs.Calls.{ValidCalled, sizedAs, allowed, outcomeReply, playReply, bankCall, playCall, fadeCall, toneCall, polyBlepCall, panCall, gainCall, stopCall, entryReply, searchCall, placeReply, allocateCall, audibleCall, stereoCall, dutyCall, plainPlayCall, panReply, panReadCall, sampleCall, wideStereoCall, fadeLeftCall, laterCall, callFor, called};
+ghost use Rattle.replay_calls.specs.Calls.{ValidCalled, sizedAs, allowed, outcomeReply, playReply, bankCall, playCall, fadeCall, toneCall, polyBlepCall, panCall, gainCall, stopCall, entryReply, searchCall, placeReply, allocateCall, audibleCall, stereoCall, dutyCall, plainPlayCall, panReply, panReadCall, sampleCall, wideStereoCall, fadeLeftCall, ranksCall, laterCall, callFor, called};
 use allocate::Allocated;
 use bank::EffectEntry;
 use bank::EntryRead;
@@ -26,7 +26,7 @@ use replay_fields::spec_at;
 use replay_fields::tone_waveform;
 
 // What is answered: that the line is bad, nothing, one number or two, a number of four digits or two of them, an entry, the part of the bank
-// that was asked for, the state, the policy, the configuration, the voice at an index.
+// that was asked for, the state, the policy, the configuration, the voice at an index, the ranks.
 pub enum Reply {
     Bad,
     Nothing,
@@ -40,6 +40,7 @@ pub enum Reply {
     Policy,
     Configuration,
     Voice(u8),
+    Ranks,
 }
 
 // The box after the call.
@@ -85,6 +86,7 @@ fn is_allowed(code: u8, l: &[u8]) -> bool
         0x68 => n == 2,
         0x69 => n == 4,
         0x79 => n == 2,
+        0x7a => n == 2,
         _ => false,
     }
 }
@@ -366,6 +368,22 @@ fn fade_left_call(e: OpenBox) -> Called
     }
 }
 
+fn ranks_call(e: OpenBox) -> Called
+    requires { ⌜ ValidBox e ⌝ }
+    ensures { λ r. ⌜ Made ValidCalled (ranksCall e) r ⌝ }
+{
+    if e.is_present() {
+        return Called {
+            reply: Reply::Ranks,
+            held: e,
+        };
+    }
+    Called {
+        reply: Reply::Bad,
+        held: e,
+    }
+}
+
 // The records from 62 on.
 fn later_call(code: u8, l: &[u8], bytes: &[u8], e: OpenBox) -> Called
     requires { ⌜ ValidBox e ⌝ }
@@ -390,6 +408,7 @@ fn later_call(code: u8, l: &[u8], bytes: &[u8], e: OpenBox) -> Called
             held: e,
         },
         0x79 => fade_left_call(e),
+        0x7a => ranks_call(e),
         _ => Called {
             reply: Reply::Bad,
             held: e,

@@ -2,6 +2,7 @@
 use Prim.Native.Nat.{ℕ}
 use mathlib.Core.Bool.{Bool}
 use mathlib.Core.List.{List, [], _++_}
+use lib.ListN.{take}
 use Rattle.error.specs.Told.{numberIn}
 use Rattle.tier.specs.Kinds.{byteOf}
 use Rattle.bank.specs.Banks.{payloadUnder, payloadPart}
@@ -14,7 +15,7 @@ use Rattle.mixer.specs.declared.VoiceRead.{VoiceRead}
 use Rattle.mixer.specs.declared.VoiceRead.the-variants as I
 use Rattle.config.specs.declared.AudioConfig.{AudioConfig}
 use Rattle.replay_dump.specs.Dumps.{policyNumber, modeNumber, voiceLine, dumpText}
-use Rattle.replay_box.specs.Boxes.{mixerOf}
+use Rattle.replay_box.specs.Boxes.{mixerOf, ranksOf}
 use Rattle.replay_box.specs.declared.OpenBox.{OpenBox}
 use Rattle.replay_calls.specs.declared.Reply.{Reply}
 use Rattle.replay_calls.specs.declared.Reply.the-variants as R
@@ -65,6 +66,10 @@ abbrev pub voiceText : VoiceRead → List ℕ
 voiceText (I.Voice v) = voiceLine v
 voiceText I.None = newline
 
+-- 7A: "2 digits for each of the N voices"
+abbrev pub ranksText : OpenBox → List ℕ
+ranksText b = numberedText 0 0 byteText (take (mixerOf b .n) (ranksOf b))
+
 -- "Each record that prints prints one line, unless said otherwise, its parts without a space between."
 abbrev pub replyText : Reply → List ℕ → List ℕ → OpenBox → List ℕ
 replyText R.Bad l bytes b = badText
@@ -79,3 +84,4 @@ replyText R.Dump l bytes b = dumpText (mixerOf b)
 replyText R.Policy l bytes b = hexOf 2 (policyNumber (mixerOf b .«stealing_policy»)) ++ newline
 replyText R.Configuration l bytes b = configText (mixerOf b .config)
 replyText (R.Voice i) l bytes b = voiceText (voiceRead (mixerOf b) i)
+replyText R.Ranks l bytes b = ranksText b

@@ -5,7 +5,7 @@ ghost use Rattle.error.specs.Told.{numberIn};
 ghost use Rattle.mixer.specs.Mixers.{voiceRead};
 ghost use Rattle.hex.specs.Hex.{Wrote};
 ghost use Rattle.replay_box.specs.Boxes.{ValidBox, mixerOf};
-ghost use Rattle.replay_replies.specs.Texts.{entryText, payloadText, twoText, wideTwoText, configText, voiceText, replyText};
+ghost use Rattle.replay_replies.specs.Texts.{entryText, payloadText, twoText, wideTwoText, configText, voiceText, ranksText, replyText};
 use bank::EffectEntry;
 use bank::PayloadRead;
 use config::AudioConfig;
@@ -62,6 +62,15 @@ fn put_voice_at(out: &mut [u8; 262144], e: OpenBox, i: u8) -> usize
         }
         VoiceRead::None => end_line(out, 0),
     }
+}
+
+fn put_ranks(out: &mut [u8; 262144], e: OpenBox) -> usize
+    requires { ⌜ ValidBox e ⌝ }
+    ensures { λ r. ⌜ Wrote (now (out .entry)) 0 (ranksText e) (now (out .exit)) r ⌝ }
+{
+    let ranks = e.ranks();
+    let n = e.voice_count();
+    put_u8s(out, 0, 0, &ranks[..n])
 }
 
 fn put_entry(out: &mut [u8; 262144], e: EffectEntry) -> usize
@@ -126,5 +135,6 @@ pub fn put_reply(reply: Reply, l: &[u8], bytes: &[u8], e: OpenBox, out: &mut [u8
             put_config(out, config)
         }
         Reply::Voice(i) => put_voice_at(out, e, i),
+        Reply::Ranks => put_ranks(out, e),
     }
 }

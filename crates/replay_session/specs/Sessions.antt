@@ -108,6 +108,7 @@ goesOn R.Dump = true
 goesOn R.Policy = true
 goesOn R.Configuration = true
 goesOn (R.Voice i) = true
+goesOn R.Ranks = true
 
 abbrev pub calledAnswer : Session → List ℕ → List ℕ → Called → Answer
 calledAnswer s bytes l c =
@@ -143,7 +144,7 @@ aloneAnswer s l = record { text = A.replyText l; more = A.goesOn (replyOf l); se
 
 -- the codes 11, 13 to 1D, 2B, 2C, 30, 62 to 69 and 79
 abbrev pub isCall : ℕ → Bool
-isCall code = eqb code 0x11 || (leb 0x13 code && leb code 0x1D) || eqb code 0x2B || eqb code 0x2C || eqb code 0x30 || (leb 0x62 code && leb code 0x69) || eqb code 0x79
+isCall code = eqb code 0x11 || (leb 0x13 code && leb code 0x1D) || eqb code 0x2B || eqb code 0x2C || eqb code 0x30 || (leb 0x62 code && leb code 0x69) || eqb code 0x79 || eqb code 0x7A
 
 -- the codes 20 to 2A
 abbrev pub isFill : ℕ → Bool

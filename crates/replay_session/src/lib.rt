@@ -207,6 +207,7 @@ fn goes_on(r: Reply) -> bool
         Reply::Policy => true,
         Reply::Configuration => true,
         Reply::Voice(_) => true,
+        Reply::Ranks => true,
     }
 }
 
@@ -286,6 +287,7 @@ fn is_call(code: u8) -> bool
         0x30 => true,
         0x62..=0x69 => true,
         0x79 => true,
+        0x7a => true,
         _ => false,
     }
 }

@@ -13,7 +13,7 @@ use Rattle.bank.specs.declared.BankSet.{BankSet}
 use Rattle.laws.proofs.Bools.{never}
 use Rattle.mixer.specs.Mixers as M
 use Rattle.mixer.specs.declared.Mixer.{Mixer}
-use Rattle.play.specs.Plays.{placedBy, toldPlay, playedAt, playedUnder, played}
+use Rattle.play.specs.Plays.{placedBy, toldPlay, playedAt, played}
 use Rattle.play.specs.declared.Played.{Played}
 use Rattle.ranking.specs.Box as B
 use Rattle.ranking.specs.Demand as Q
@@ -145,7 +145,7 @@ module _ {State : Type 0} (b : Player State) (laws : Lawful b) (bytes : List ℕ
 
 -- document 01's rule is allowed
 pub by-rule : {State : Type 0} (b : Player State) → ByRule b → Lawful b
-unfolding playedUnder allocated
+unfolding played allocated
 by-rule b h =
     record {
       choice = λ s p. chosen (b .mixer s .«stealing_policy») (voices b s) p;

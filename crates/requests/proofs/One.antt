@@ -7,13 +7,14 @@ use mathlib.Core.List.{List}
 use mathlib.Core.Option.{Option, none, some}
 use lib.ListN.{length-take}
 use lib.Seq.{take-set-lt}
-use Rattle.error.specs.Told.{Told, value, refused}
+use Rattle.error.specs.Told.{Told, value, refused, valueIn}
 use Rattle.allocate.specs.Allocation.{priorityOf, placeOf, allocated}
 use Rattle.bank.specs.declared.BankSet.{BankSet}
 use Rattle.laws.proofs.Bools.{never}
 use Rattle.mixer.specs.Mixers.{voicesOf, withVoices}
 use Rattle.mixer.specs.declared.Mixer.{Mixer}
-use Rattle.play.specs.Plays.{placedBy, toldPlay, playedAt, playedUnder, played}
+use Rattle.play.specs.Plays.{placedBy, toldPlay, playedAt, played}
+use Rattle.play.specs.declared.Played.{Played}
 use Rattle.ranking.specs.Box as B
 use Rattle.ranking.specs.Demand as D
 use Rattle.ranking.specs.Demand.{Allowed, free, taken}
@@ -74,5 +75,17 @@ rest-by m (value i) (refused e) = refl
 
 module _ (m : Mixer) (bytes : List ℕ) (r : Request) where
   pub rest-one : played m bytes r .mixer ≡ withVoices m (played m bytes r .mixer .voices)
-  unfolding playedUnder
+  unfolding played
   rest-one = rest-by m (allocated m (r .priority)) (requestStart (m .bank) bytes r)
+
+-- ---- starts that differ at most in a refusal's number
+pub record SamePlay (p q : Played) : Type 0 where
+  pub place : valueIn (toldPlay (p .outcome)) ≡ valueIn (toldPlay (q .outcome))
+  pub mixer : p .mixer ≡ q .mixer
+
+pub same-start : (m : Mixer) (place : Told ℕ) (s t : Told Voice) → valueIn s ≡ valueIn t → SamePlay (playedAt m (placedBy place s)) (playedAt m (placedBy place t))
+same-start m (refused n) s t e = record { place = refl; mixer = refl }
+same-start m (value i) (value x) (value y) e = let same : x ≡ y = cc in record { place = refl; mixer = rw same }
+same-start m (value i) (value x) (refused n) e = record { place = cc; mixer = cc }
+same-start m (value i) (refused k) (value y) e = record { place = cc; mixer = cc }
+same-start m (value i) (refused k) (refused n) e = record { place = refl; mixer = refl }

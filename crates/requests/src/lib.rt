@@ -1,16 +1,15 @@
 // A list of play requests, ten bytes each, to the state of a box: a part of every box that takes them.
 ghost use mathlib.Core.Path.{_≡_};
-ghost use Prim.Native.Nat.{_+_, _≤_};
+ghost use Prim.Native.Nat.{_+_, _≤_, _<_};
 ghost use lib.ListN.{length, set};
 ghost use Rattle.laws.specs.Made.{Made};
-ghost use Rattle.marks.specs.Marks.{Valid};
-ghost use Rattle.play.specs.Plays.{toldPlay};
-ghost use Rattle.requests.specs.Presents.{startedAt, ValidPresentPlayed, playedPresent, present};
+ghost use Rattle.marks.specs.Marks.{Valid, ValidIn};
+ghost use Rattle.requests.specs.Presents.{ValidPresentPlayed, playedPresent, playerBy};
+ghost use Rattle.requests.specs.Steps.{renewedBy};
 ghost use Rattle.requests.specs.Slices.{big16At, requestAt, PlaysEach};
-use allocate::ranks::rank;
-use allocate::ranks::ranks_of;
+use allocate::keys::keys_of;
+use allocate::keys::rekeyed;
 use envelope::AdsrSpec;
-use marks::Mark;
 use marks::Marks;
 use marks::Present;
 use play::PlayOutcome;
@@ -24,29 +23,30 @@ pub struct PresentPlayed {
     pub present: Present,
 }
 
-// The marks with that of a voice that a request got.
-fn marked(marks: Marks, outcome: PlayOutcome) -> Marks
-    ensures { λ r. ⌜ r ≡ startedAt (toldPlay outcome) marks ⌝ }
-{
-    match outcome {
-        PlayOutcome::Refused(_) => marks,
-        PlayOutcome::Voice(i) => marks.started(i),
-    }
-}
-
-pub fn play_request(p: Present, bytes: &[u8], request: Request, parted: bool) -> PresentPlayed
+pub fn play_request(p: Present, bytes: &[u8], request: Request) -> PresentPlayed
     requires { ⌜ Valid p ⌝ }
-    ensures { λ r. ⌜ Made ValidPresentPlayed (playedPresent parted p (now (bytes .entry)) request) r ⌝ }
+    ensures { λ r. ⌜ Made ValidPresentPlayed (playedPresent p (now (bytes .entry)) request) r ⌝ }
 {
-    let m = p.mixer;
-    let k = p.marks;
-    let played = play::play_request(m, bytes, request, parted);
-    let outcome = played.outcome;
-    let mixer = played.mixer;
-    let marks = marked(k, outcome);
-    PresentPlayed {
-        outcome,
-        present: Present { mixer, marks },
+    let mut mixer = p.mixer;
+    let old = p.marks;
+    let voices = mixer.voices;
+    let ranks = old.voices;
+    let keys = keys_of(voices, ranks, true);
+    let bank = mixer.bank;
+    let policy = mixer.stealing_policy;
+    match place(&keys, mixer.n, policy, bank, bytes, request, true) {
+        Placed::Refused(e) => PresentPlayed {
+            outcome: PlayOutcome::Refused(e),
+            present: p,
+        },
+        Placed::Voice(i, v) => {
+            mixer.voices[i] = v;
+            let marks = old.renewed(i);
+            PresentPlayed {
+                outcome: PlayOutcome::Voice(i),
+                present: Present { mixer, marks },
+            }
+        }
     }
 }
 
@@ -83,34 +83,44 @@ fn tell(outcomes: &mut [u16], i: usize, cell: u16)
     }
 }
 
+// Marks beside a voice that was started; document 01's box has none.
+fn renewed(marks: Marks, i: usize, present: bool) -> Marks
+    requires { ⌜ i < 16 ⌝ }
+    ensures { λ r. ⌜ r ≡ renewedBy present i marks ⌝ }
+{
+    if present { marks.renewed(i) } else { marks }
+}
+
 // Plays every request of the slice, one after another, and tells each one's outcome in a cell of its own, as far as there are cells: the voice
-// that it got, or 256 × its refusal's number and 255. Fewer than ten bytes at the slice's end are no request. Voices and their ranks stay in locals,
-// since a state handed over for each request would cost more in copies than the request.
+// that it got, or 256 × its refusal's number and 255. Fewer than ten bytes at the slice's end are no request. Voices and their keys stay in locals,
+// since a state handed over for each request would cost more in copies than the request. `present` for the box of the present rules.
 pub fn play_each(
     p: Present,
     bytes: &[u8],
     requests: &[u8],
     outcomes: &mut [u16],
-    parted: bool,
+    present: bool,
 ) -> Present
-    requires { ⌜ Valid p ⌝ }
-    ensures { λ r. ⌜ PlaysEach (present parted) Valid p (now (bytes .entry)) (now (requests .entry)) (now (outcomes .entry)) r (now (outcomes .exit)) ⌝ }
+    requires { ⌜ ValidIn present p ⌝ }
+    ensures { λ r. ⌜ PlaysEach (playerBy present) (ValidIn present) p (now (bytes .entry)) (now (requests .entry)) (now (outcomes .entry)) r (now (outcomes .exit)) ⌝ }
 {
     let count = requests.len() / 10;
     let mut mixer = p.mixer;
     let mut marks = p.marks;
     let voices = mixer.voices;
-    let mut ranks = ranks_of(voices);
+    let ranks = marks.voices;
+    let mut keys = keys_of(voices, ranks, present);
     for i in 0..count {
         let request = request_at(requests, 10 * i);
         let bank = mixer.bank;
         let policy = mixer.stealing_policy;
-        match place(&ranks, mixer.n, policy, bank, bytes, request, parted) {
+        match place(&keys, mixer.n, policy, bank, bytes, request, present) {
             Placed::Refused(e) => tell(outcomes, i, 256 * (e.number() as u16) + 255),
             Placed::Voice(k, v) => {
-                ranks[k] = rank(v);
+                marks = renewed(marks, k, present);
+                let mark = marks.voices[k];
+                keys = rekeyed(keys, k, v, mark.rank, present);
                 mixer.voices[k] = v;
-                marks.voices[k] = Mark { whole: true };
                 tell(outcomes, i, k as u16);
             }
         }

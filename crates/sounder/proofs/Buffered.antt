@@ -15,7 +15,7 @@ use Rattle.buffers.specs.declared.Shape.the-variants.{Once, Doubled, Sides}
 use Rattle.frame.proofs.Settling.{Still, mono-still, duty-still, stereo-still}
 use Rattle.frame.proofs.Sized.{Ready, valid-ready}
 use Rattle.laws.specs.Runs.{after, given}
-use Rattle.marks.specs.Marks.{Valid, settled}
+use Rattle.marks.specs.Marks.{Valid, Ordered, heardOf, settled}
 use Rattle.marks.specs.declared.Present.{Present}
 use Rattle.marks.proofs.Laws.{settled-valid}
 use Rattle.sounder.specs.Frames.{frames}
@@ -40,13 +40,17 @@ module _ {A : Type 0} (step : Present → Present) (gives : Present → List A) 
   ready-run zero p h = h
   ready-run (suc n) p h = ready-run n (step p) (still p h .keeps)
 
+  fills-order : (n w : ℕ) (p : Present) (cells filled : List A) (r : Done Present) → Valid p → FillsIn ValidInside step gives n w p cells r filled
+      → Ordered (heardOf (r .state)) (r .state .marks .voices)
+  fills-order n w p cells filled r v h = rw (h .state .same) (ready-run n p (valid-ready p v) .order)
+
   fills-settled : (n w : ℕ) (p : Present) (cells filled : List A) (r : Done Present) {q : Present} → Valid p → q ≡ settled (r .state) → FillsIn ValidInside step gives n w p cells r filled
       → FillsIn Valid each gives n w p cells (record { state = q; filled = r .filled }) filled
   fills-settled n w p cells filled r v e h =
       let z = valid-ready p v in
       let full : length (r .state .marks .voices) ≡ 16 = rw (h .state .same) (ready-run n p z .marked) in
       record {
-        state = record { same = e ∙ ap settled (h .state .same) ∙ sym (run n p z) ∙ ap (after each n) (v .quiet); valid = rw e (settled-valid (r .state) (h .state .valid) full) };
+        state = record { same = e ∙ ap settled (h .state .same) ∙ sym (run n p z) ∙ ap (after each n) (v .quiet); valid = rw e (settled-valid (r .state) (h .state .valid) full (fills-order n w p cells filled r v h)) };
         count = h .count;
         content = h .content ∙ ap (λ (l : List A). l ++ drop w cells) (sym (gave n p z) ∙ ap (given each gives n) (v .quiet));
       }
@@ -56,6 +60,13 @@ shape-still : {A : Type 0} (scale : ℤ → A) (z : Shape) (p : Present) → Rea
 shape-still scale Once p h = mono-still (λ s. scale s ∷ []) p h
 shape-still scale Doubled p h = mono-still (λ s. scale s ∷ scale s ∷ []) p h
 shape-still scale Sides p h = stereo-still (λ l r. scale l ∷ scale r ∷ []) p h
+
+-- what settling asks
+pub shape-order : {A : Type 0} (scale : ℤ → A) (z : Shape) (p : Present) {cells filled : List A} {r : Filled} → Valid p → FillsFrom scale z p cells r filled
+    → Ordered (heardOf (r .state)) (r .state .marks .voices)
+shape-order scale Once p v h = fills-order _ _ (shape-still scale Once) _ _ p _ _ _ v h
+shape-order scale Doubled p v h = fills-order _ _ (shape-still scale Doubled) _ _ p _ _ _ v h
+shape-order scale Sides p v h = fills-order _ _ (shape-still scale Sides) _ _ p _ _ _ v h
 
 pub shape-settled : {A : Type 0} (scale : ℤ → A) (z : Shape) (p : Present) {cells filled : List A} {r : Filled} {q : Present} → Valid p → q ≡ settled (r .state)
     → FillsFrom scale z p cells r filled → FillsShape frames Valid scale z p cells (record { state = q; filled = r .filled }) filled
@@ -67,6 +78,12 @@ level-still : (l : Level) (p : Present) → Ready p → Still (levelNext present
 level-still Duty p h = duty-still (λ d. d ∷ []) p h
 level-still U12 p h = mono-still (λ s. toU12 s ∷ []) p h
 level-still U16 p h = mono-still (λ s. toU16 s ∷ []) p h
+
+pub level-order : (l : Level) (p : Present) {cells filled : List ℕ} {r : Filled} → Valid p → LevelsFrom l p cells r filled
+    → Ordered (heardOf (r .state)) (r .state .marks .voices)
+level-order Duty p v h = fills-order _ _ (level-still Duty) _ _ p _ _ _ v h
+level-order U12 p v h = fills-order _ _ (level-still U12) _ _ p _ _ _ v h
+level-order U16 p v h = fills-order _ _ (level-still U16) _ _ p _ _ _ v h
 
 pub level-settled : (l : Level) (p : Present) {cells filled : List ℕ} {r : Filled} {q : Present} → Valid p → q ≡ settled (r .state)
     → LevelsFrom l p cells r filled → FillsLevel frames Valid l p cells (record { state = q; filled = r .filled }) filled

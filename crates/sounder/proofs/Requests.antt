@@ -1,27 +1,39 @@
 -- The box takes play requests as its state does, and demand 3 holds of it. Assumes nothing.
-use mathlib.Core.Bool.{true, false}
-use mathlib.Core.Path.{refl}
+use Prim.Native.Nat.{ℕ}
+use mathlib.Core.Bool.{true}
+use mathlib.Core.List.{List}
+use mathlib.Core.Path.{_≡_, refl}
+use Rattle.error.specs.Told.{value}
 use Rattle.marks.specs.Marks.{Valid}
 use Rattle.marks.specs.declared.Present.{Present}
-use Rattle.play.proofs.Parted.{same-play}
+use Rattle.play.specs.Plays.{toldPlay}
 use Rattle.requests.specs.Players.{Lawful}
-use Rattle.requests.specs.Presents.{present}
+use Rattle.requests.specs.Presents.{playerBy, RanksAlone}
 use Rattle.requests.proofs.Along.{Follows}
-use Rattle.requests.proofs.Demand3.{by-rule}
+use Rattle.requests.proofs.Presents as P
+use Rattle.start.specs.declared.Request.{Request}
+use Rattle.sounder.specs.Calls.{played}
 use Rattle.sounder.specs.Requests.{player}
 use Rattle.sounder.specs.Sounders.{ValidSounder, boxed}
+use Rattle.sounder.specs.declared.Sounder.{Sounder}
 
 -- so `requests` demand-3 and sound-accepted hold of it
 pub lawful : Lawful player
 lawful =
-    by-rule player
-    (record {
-      hands = λ s bytes r. same-play true false (s .state .mixer) bytes r .place;
-      leaves = λ s bytes r. same-play true false (s .state .mixer) bytes r .mixer;
-    })
+    let l = P.lawful true in
+    record {
+      choice = λ s priority. l .choice (s .state) priority;
+      allows = λ s priority k. l .allows (s .state) priority k;
+      hands = λ s bytes r. l .hands (s .state) bytes r;
+      leaves = λ s bytes r. l .leaves (s .state) bytes r;
+    }
 
-pub follows : Follows (present true) player boxed
+pub follows : Follows (playerBy true) player boxed
 follows = record { mixer = λ p. refl; told = λ p bytes r. refl; next = λ p bytes r. refl }
 
 pub boxed-valid : (p : Present) → Valid p → ValidSounder (boxed p)
 boxed-valid p h = record { inside = h }
+
+-- "An accepted request may change the rank, and nothing else, of a voice that it doesn't get"
+pub ranks-alone : (s : Sounder) (bytes : List ℕ) (r : Request) (i : ℕ) → ValidSounder s → toldPlay (played (s .state) bytes r .outcome) ≡ value i → RanksAlone (s .state) bytes r i
+ranks-alone s bytes r i h e = P.ranks-alone (s .state) bytes r i (h .inside) e

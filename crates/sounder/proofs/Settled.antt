@@ -2,11 +2,13 @@
 -- nothing. Assumes nothing.
 use Prim.Native.Nat.{ℕ, zero, suc}
 use mathlib.Core.Path.{_≡_, refl, ap, sym, _∙_}
-use mathlib.Core.Bool.{true, false}
+use mathlib.Core.Bool.{Bool, true, false, cond}
+use lib.Dec.{ltb}
 use mathlib.Core.List.{List, [], _∷_}
 use lib.ListN.{drop, replicate}
 use Rattle.bank.specs.Banks.{bankOf}
 use Rattle.bank.specs.declared.SoundBank.{SoundBank}
+use Rattle.config.specs.declared.AudioConfig.{AudioConfig}
 use Rattle.envelope.specs.Adsrs as A
 use Rattle.envelope.specs.declared.AdsrSpec.{AdsrSpec}
 use Rattle.error.specs.Told.{Told, value, refused, refusal}
@@ -16,7 +18,9 @@ use Rattle.marks.specs.Marks.{Valid, beside, settled}
 use Rattle.marks.specs.declared.Present.{Present}
 use Rattle.marks.proofs.Laws.{silent-settled}
 use Rattle.mixer.specs.Mixers as M
+use Rattle.mixer.specs.declared.Mixer.{Mixer}
 use Rattle.mixer.specs.declared.Outcome.the-variants as O
+use Rattle.mixer.specs.declared.VoiceStealingPolicy.{VoiceStealingPolicy}
 use Rattle.play.specs.Fades as F
 use Rattle.voice.specs.Sources.{activeSource}
 use Rattle.voice.specs.Voices.{audible, silentVoice, stoppedVoice}
@@ -27,7 +31,7 @@ use Rattle.sounder.specs.Sounders.{changedBox}
 abbrev Silent : Voice → Type 0
 Silent v = audible v ≡ false
 
-silent : (rate : ℕ) → Silent (silentVoice rate)
+pub silent : (rate : ℕ) → Silent (silentVoice rate)
 unfolding audible silentVoice activeSource A.active
 silent rate = refl
 
@@ -40,19 +44,39 @@ all-drop zero vs a = a
 all-drop (suc n) [] a = tt
 all-drop (suc n) (v ∷ vs) a = all-drop n vs (a .1)
 
-all-stopped : (n : ℕ) (vs : List Voice) → All Silent (drop n vs) → All Silent (mapFirst stoppedVoice n vs)
+pub all-stopped : (n : ℕ) (vs : List Voice) → All Silent (drop n vs) → All Silent (mapFirst stoppedVoice n vs)
 all-stopped zero vs a = a
 all-stopped (suc n) [] a = tt
 all-stopped (suc n) (v ∷ vs) a = (quiet v, all-stopped n vs a)
+
+-- no voice is audible after an opening, a stop or a bank
+pub opened-silent : (n : ℕ) (config : AudioConfig) (policy : VoiceStealingPolicy) → All Silent (M.opened n config policy .mixer .voices)
+unfolding M.opened M.fresh
+opened-silent n config policy = go (ltb 16 n) (ltb 65537 (config .«sample_rate_hz»)) (ltb (config .«pwm_period») 2)
+  where
+    all : (rate : ℕ) → All Silent (replicate 16 (silentVoice rate))
+    all rate = all-replicate Silent 16 (silentVoice rate) (silent rate)
+
+    go : (a b c : Bool)
+        → All Silent (cond a (M.notOpened 1) (cond b (M.notOpened 2) (cond c (M.notOpened 3) (record { outcome = O.Done; mixer = M.fresh n config policy }))) .mixer .voices)
+    go true b c = all 0
+    go false true c = all 0
+    go false false true = all 0
+    go false false false = all (config .«sample_rate_hz»)
+
+pub stopped-silent : (m : Mixer) → M.Valid m → All Silent (M.stopped m .voices)
+unfolding M.stopped
+stopped-silent m h =
+    let rate = m .config .«sample_rate_hz» in
+    let rest : All Silent (drop (m .n) (m .voices)) = rw (h .rest) (all-drop (m .n) (replicate 16 (silentVoice rate)) (all-replicate Silent 16 (silentVoice rate) (silent rate))) in
+    all-stopped (m .n) (m .voices) rest
 
 pub stopped-settled : (p : Present) → Valid p
     → stopped p ≡ settled (beside (M.stopped (p .mixer)) (record { voices = p .marks .voices; master = true }))
 unfolding M.stopped
 stopped-settled p h =
     let m = p .mixer in
-    let rate = m .config .«sample_rate_hz» in
-    let rest : All Silent (drop (m .n) (m .voices)) = rw (h .inside .rest) (all-drop (m .n) (replicate 16 (silentVoice rate)) (all-replicate Silent 16 (silentVoice rate) (silent rate))) in
-    sym (silent-settled (M.stopped m) _ (length-mapFirst stoppedVoice (m .n) (m .voices) ∙ h .inside .full) (h .full) (all-stopped (m .n) (m .voices) rest))
+    sym (silent-settled (M.stopped m) _ (length-mapFirst stoppedVoice (m .n) (m .voices) ∙ h .inside .full) (h .full) (stopped-silent m (h .inside)))
 
 bank-settled : (p : Present) (b : Told SoundBank) → Valid p
     → beside (M.bankedBy (p .mixer) b .mixer) (bankMarks (M.bankedBy (p .mixer) b .outcome) (p .marks)) ≡ settled (beside (M.bankedBy (p .mixer) b .mixer) (p .marks))

@@ -1,6 +1,6 @@
 -- Each call of the box does to its fade what document 01's does; so a fade takes its count of frames. Assumes nothing.
 use Prim.Native.Nat.{ℕ}
-use mathlib.Core.Path.{_≡_, refl}
+use mathlib.Core.Path.{_≡_, refl, ap, sym, _∙_}
 use mathlib.Core.Bool.{true, false}
 use mathlib.Core.List.{List, map}
 use lib.ListN.{replicate}
@@ -11,7 +11,14 @@ use Rattle.frame.specs.Lasting.{framesLeft, SameFade, Step, frame, call, afterA
 use Rattle.laws.specs.Runs.{after}
 use Rattle.marks.specs.Marks.{settled}
 use Rattle.mixer.specs.Mixers.{toldOutcome}
-use Rattle.play.proofs.Parted.{same-play, same-fade, fade-accepted}
+use Rattle.mixer.specs.Mixers as M
+use Rattle.mixer.specs.declared.Mixer.{Mixer}
+use Rattle.play.specs.Plays.{played}
+use Rattle.play.proofs.Parted.{same-fade, fade-accepted}
+use Rattle.allocate.specs.Allocation.{placeOf}
+use Rattle.requests.proofs.One.{rest-by, rest-one}
+use Rattle.start.specs.Starts.{requestStart}
+use Rattle.voice.specs.declared.Voice.{Voice}
 use Rattle.start.specs.declared.Request.{Request}
 use Rattle.steps.specs.Steps.{Frame, mono, duty, stereo, Call, play, tone, polyBlep, bank, pan, masterGain, stop, fade, look, calledMixer, ByRule}
 use Rattle.steps.proofs.Calls.{same}
@@ -22,6 +29,7 @@ use Rattle.sounder.specs.Requests.{player, playedAll}
 use Rattle.sounder.specs.Sounders.{ValidSounder, boxed}
 use Rattle.sounder.specs.Steps.{frameStep, framed, called, stepper, box, FadeTakes}
 use Rattle.sounder.specs.declared.Sounder.{Sounder}
+use Rattle.sounder.proofs.Requests.{lawful}
 
 advances : (f : Frame) (s : Sounder) → SameFade (framed f s .state .mixer) (advanced (s .state .mixer))
 unfolding settled
@@ -29,9 +37,25 @@ advances mono s = mono-fade (s .state .marks) (s .state .mixer)
 advances duty s = duty-fade (s .state .marks) (s .state .mixer)
 advances stereo s = stereo-fade (s .state .marks) (s .state .mixer)
 
+-- whichever voice a request gets, nothing but voices changes
+same-rest : (m a b : Mixer) (vs ws : List Voice) → a ≡ M.withVoices m vs → b ≡ M.withVoices m ws → SameFade a b
+same-rest m a b vs ws e f =
+    record {
+      active = ap (λ (x : Mixer). x .«crossfade_active») e ∙ sym (ap (λ (x : Mixer). x .«crossfade_active») f);
+      t = ap (λ (x : Mixer). x .«crossfade_t_q8») e ∙ sym (ap (λ (x : Mixer). x .«crossfade_t_q8») f);
+      step = ap (λ (x : Mixer). x .«crossfade_step_q8») e ∙ sym (ap (λ (x : Mixer). x .«crossfade_step_q8») f);
+    }
+
+plays : (s : Sounder) (bytes : List ℕ) (r : Request) → SameFade (called (play bytes r) s .state .mixer) (played (s .state .mixer) bytes r .mixer)
+plays s bytes r =
+    let m = s .state .mixer in
+    same-rest m _ _ _ _
+    (lawful .leaves s bytes r ∙ rest-by m (placeOf (lawful .choice s (r .priority))) (requestStart (m .bank) bytes r))
+    (rest-one m bytes r)
+
 calls : (c : Call) (s : Sounder) → SameFade (called c s .state .mixer) (calledMixer c (s .state .mixer))
 unfolding settled
-calls (play bytes r) s = rw (same-play true false (s .state .mixer) bytes r .mixer) (same _)
+calls (play bytes r) s = plays s bytes r
 calls (tone hz ms waveform) s = same _
 calls (polyBlep hz ms waveform) s = same _
 calls (bank rate count len) s = same _

@@ -1,47 +1,47 @@
 -- Each definition keeps a state valid; so what a step of the parts promises, the call promises of the box. Assumes nothing.
 use Prim.Native.Nat.{ℕ}
 use mathlib.Core.Path.{_≡_, refl, ap, _∙_}
+use native.Mathlib.Omega.{arith}
 use mathlib.Core.Bool.{Bool, true, false, cond}
 use mathlib.Core.List.{List, map}
 use lib.Dec.{ltb}
 use lib.ListN.{length, getD}
 use lib.Seq.{map-set-same}
-use Rattle.allocate.specs.Allocation.{allocated}
 use Rattle.bank.specs.Banks.{bankOf}
 use Rattle.bank.specs.declared.SoundBank.{SoundBank}
 use Rattle.config.specs.Config.{defaultDuty}
 use Rattle.config.specs.declared.AudioConfig.{AudioConfig}
-use Rattle.error.specs.Told.{Told, value, refused, ValidTold}
+use Rattle.error.specs.Told.{Told, value, refused}
 use Rattle.laws.specs.Made.{Made}
 use Rattle.laws.proofs.Made.{made}
-use Rattle.marks.specs.Marks.{Valid, beside, noMarks, startedMark, markedAt, settled}
+use Rattle.laws.specs.Lists.{All}
+use Rattle.laws.proofs.Lists.{all-replicate}
+use Rattle.marks.specs.Marks.{Valid, Ordered, beside, noMarks, startedMark, markedAt, settled}
 use Rattle.marks.specs.declared.Marks.{Marks}
 use Rattle.marks.specs.declared.Present.{Present}
-use Rattle.marks.proofs.Laws.{settled-valid, none-valid, changed-valid, started-valid, marked-length}
+use Rattle.marks.proofs.Laws.{settled-valid, none-valid, changed-valid, fewer-order, marked-length}
+use Rattle.marks.proofs.Starts.{begun-order}
 use Rattle.mixer.specs.Mixers as M
 use Rattle.mixer.specs.declared.Changed.{Changed}
 use Rattle.mixer.specs.declared.Mixer.{Mixer}
 use Rattle.mixer.specs.declared.Outcome.{Outcome}
 use Rattle.mixer.specs.declared.Outcome.the-variants as O
 use Rattle.mixer.specs.declared.VoiceRead.the-variants as R
-use Rattle.play.specs.Plays as P
-use Rattle.play.specs.declared.Played.{Played}
 use Rattle.requests.specs.Presents.{ValidPresentPlayed}
 use Rattle.requests.specs.declared.PresentPlayed.{PresentPlayed}
-use Rattle.start.specs.Starts.{requestStart}
-use Rattle.start.specs.declared.Request.{Request}
-use Rattle.start.proofs.Laws.{Heard, request-heard}
 use Rattle.voice.specs.Voices.{audible, withPan, silentVoice}
 use Rattle.voice.specs.declared.Voice.{Voice}
 use Rattle.sounder.specs.Sounders.{ValidSounder, ValidSounderChanged, ValidSounderPlayed, boxed, changedBox, playedBox}
 use Rattle.sounder.specs.Calls.{openedTwo, defaultSounder, panned, withMasterGain, bankMarks, banked, fadeMarks}
 use Rattle.sounder.specs.declared.SounderChanged.{SounderChanged}
+use Rattle.sounder.proofs.Heard.{Others, HeardBy}
+use Rattle.sounder.proofs.Settled.{silent}
 
 -- ---- opening
-pub made-opened : {x c : Changed} {k : Marks} → Made M.ValidChanged x c → k ≡ noMarks true
+pub made-opened : {x c : Changed} {k : Marks} → Made M.ValidChanged x c → All (λ v. audible v ≡ false) (x .mixer .voices) → k ≡ noMarks true
     → Made ValidSounderChanged (changedBox (x .outcome) (beside (x .mixer) (noMarks true))) (changedBox (c .outcome) (beside (c .mixer) k))
-made-opened {c = c} h e =
-    record { same = rw (e, h .same); valid = record { inside = rw e (none-valid (c .mixer) true (h .valid)) } }
+made-opened {c = c} h a e =
+    record { same = rw (e, h .same); valid = record { inside = rw e (none-valid (c .mixer) true (h .valid) (rw (h .same) a)) } }
 
 default-opens : openedTwo defaultDuty .sounder ≡ boxed defaultSounder
 unfolding M.opened
@@ -58,7 +58,7 @@ pan-alike : (v : Voice) (pan : ℕ) → audible (withPan v pan) ≡ audible v
 unfolding audible withPan
 pan-alike v pan = refl
 
-panned-alike : (m : Mixer) (i pan : ℕ) → map audible (M.panned m i pan .voices) ≡ map audible (m .voices)
+pub panned-alike : (m : Mixer) (i pan : ℕ) → map audible (M.panned m i pan .voices) ≡ map audible (m .voices)
 unfolding M.panned M.voiceRead
 panned-alike m i pan = by-place (ltb i (m .n))
   where
@@ -72,22 +72,25 @@ panned-alike m i pan = by-place (ltb i (m .n))
 pub made-panned : {p : Present} (i pan : ℕ) {m : Mixer} → Valid p → Made M.Valid (M.panned (p .mixer) i pan) m
     → Made ValidSounder (boxed (panned p i pan)) (boxed (beside m (p .marks)))
 made-panned {p} i pan h g =
-    record { same = rw (g .same); valid = record { inside = changed-valid _ h (g .valid) (rw (g .same) (panned-alike (p .mixer) i pan)) } }
+    record { same = rw (g .same); valid = record { inside = changed-valid h _ (g .valid) (rw (g .same) (panned-alike (p .mixer) i pan)) } }
 
 pub made-gain : {p : Present} (gain : ℕ) {m : Mixer} → Valid p → Made M.Valid (M.withMasterGain (p .mixer) gain) m
     → Made ValidSounder (boxed (withMasterGain p gain)) (boxed (beside m (p .marks)))
 unfolding M.withMasterGain
 made-gain {p} gain h g =
-    record { same = rw (g .same); valid = record { inside = changed-valid _ h (g .valid) (rw (g .same) refl) } }
+    record { same = rw (g .same); valid = record { inside = changed-valid h _ (g .valid) (rw (g .same) refl) } }
 
 -- ---- what silences all
-pub made-stopped : {x m : Mixer} {k : Marks} → Made M.Valid x m → k ≡ noMarks true → Made ValidSounder (boxed (beside x (noMarks true))) (boxed (beside m k))
-made-stopped {m = m} g e = record { same = rw (e, g .same); valid = record { inside = rw e (none-valid m true (g .valid)) } }
+pub made-stopped : {x m : Mixer} {k : Marks} → Made M.Valid x m → All (λ v. audible v ≡ false) (x .voices) → k ≡ noMarks true
+    → Made ValidSounder (boxed (beside x (noMarks true))) (boxed (beside m k))
+made-stopped {m = m} g a e = record { same = rw (e, g .same); valid = record { inside = rw e (none-valid m true (g .valid) (rw (g .same) a)) } }
 
 banked-valid : (p : Present) (b : Told SoundBank) → Valid p → M.Valid (M.bankedBy (p .mixer) b .mixer)
     → Valid (beside (M.bankedBy (p .mixer) b .mixer) (bankMarks (M.bankedBy (p .mixer) b .outcome) (p .marks)))
 banked-valid p (refused n) h g = h
-banked-valid p (value b) h g = none-valid _ (p .marks .master) g
+banked-valid p (value b) h g =
+    let v = silentVoice (b .«sample_rate_hz») in
+    none-valid _ (p .marks .master) g (all-replicate (λ (w : Voice). audible w ≡ false) 16 v (silent (b .«sample_rate_hz»)))
 
 pub made-banked : {p : Present} (rate count len : ℕ) {c : Changed} {k : Marks} → Valid p → Made M.ValidChanged (M.banked (p .mixer) rate count len) c
     → k ≡ bankMarks (c .outcome) (p .marks) → Made ValidSounderChanged (banked p rate count len) (changedBox (c .outcome) (beside (c .mixer) k))
@@ -95,13 +98,6 @@ unfolding M.banked
 made-banked {p} rate count len h g e =
     let v = rw (g .same) at (g .valid) in
     made (rw (e, g .same)) (record { inside = banked-valid p (bankOf rate count len) h v })
-
--- ---- what starts
--- a voice that is handed out is audible
-placed-heard : (q : ℕ) (a : Told ℕ) (s : Told Voice) → Heard q s → ValidTold (λ (x : ℕ × Voice). audible (x .1) ≡ true) (P.placedBy a s)
-placed-heard q (refused n) s h = tt
-placed-heard q (value i) (refused n) h = tt
-placed-heard q (value i) (value v) h = h .0
 
 -- ---- a play request
 pub made-played : {x r : PresentPlayed} → Made ValidPresentPlayed x r → Made ValidSounderPlayed (playedBox (x .outcome) (x .present)) (playedBox (r .outcome) (r .present))
@@ -111,19 +107,30 @@ fade-length : (o : Outcome) (k : Marks) → length (fadeMarks o k .voices) ≡ l
 fade-length O.Done k = marked-length 1 startedMark k
 fade-length (O.Refused e) k = refl
 
-pub made-faded : {p s : Present} {x c : Changed} {k : Marks} → Valid p → Made M.ValidChanged x c → k ≡ fadeMarks (c .outcome) (p .marks) → s ≡ settled (beside (c .mixer) k)
-    → Made ValidSounderChanged (changedBox (x .outcome) (settled (beside (x .mixer) (fadeMarks (x .outcome) (p .marks))))) (changedBox (c .outcome) s)
-made-faded {p} {c = c} h g e f =
-    record {
-      same = rw (f, e, g .same);
-      valid = record { inside = rw (f, e) (settled-valid _ (g .valid) (fade-length (c .outcome) (p .marks) ∙ h .full)) };
-    }
+fade-order : (p : Present) (o : Outcome) (after : Mixer) → Valid p → HeardBy o (p .mixer) after → Ordered (map audible (after .voices)) (fadeMarks o (p .marks) .voices)
+fade-order p O.Done after h sub = begun-order h 1 (omega arith) after sub
+fade-order p (O.Refused e) after h sub = fewer-order (h .order) sub
+
+module _ {p : Present} {x c : Changed} {k : Marks} (h : Valid p) (g : Made M.ValidChanged x c) (a : HeardBy (x .outcome) (p .mixer) (x .mixer)) (e : k ≡ fadeMarks (c .outcome) (p .marks)) where
+  pub faded-order : Ordered (map audible (c .mixer .voices)) (k .voices)
+  faded-order = rw e (fade-order p (c .outcome) (c .mixer) h (rw (g .same) a))
+
+  pub made-faded : {s : Present} → s ≡ settled (beside (c .mixer) k)
+      → Made ValidSounderChanged (changedBox (x .outcome) (settled (beside (x .mixer) (fadeMarks (x .outcome) (p .marks))))) (changedBox (c .outcome) s)
+  made-faded f =
+      record {
+        same = rw (f, e, g .same);
+        valid = record { inside = rw f (settled-valid _ (g .valid) (rw e (fade-length (c .outcome) (p .marks) ∙ h .full)) faded-order) };
+      }
 
 -- voice 0 started, in a state that a step of the parts gave
-pub made-first : {p s : Present} {x m : Mixer} {k : Marks} → Valid p → Made M.Valid x m → k ≡ markedAt 0 startedMark (p .marks) → s ≡ settled (beside m k)
-    → Made ValidSounder (boxed (settled (beside x (markedAt 0 startedMark (p .marks))))) (boxed s)
-made-first {p} h g e f =
-    record {
-      same = rw (f, e, g .same);
-      valid = record { inside = rw (f, e) (settled-valid _ (g .valid) (marked-length 0 startedMark (p .marks) ∙ h .full)) };
-    }
+module _ {p : Present} {x m : Mixer} {k : Marks} (h : Valid p) (g : Made M.Valid x m) (a : Others 0 (p .mixer) x) (e : k ≡ markedAt 0 startedMark (p .marks)) where
+  pub first-order : Ordered (map audible (m .voices)) (k .voices)
+  first-order = rw e (begun-order h 0 (omega arith) m (rw (g .same) a))
+
+  pub made-first : {s : Present} → s ≡ settled (beside m k) → Made ValidSounder (boxed (settled (beside x (markedAt 0 startedMark (p .marks))))) (boxed s)
+  made-first f =
+      record {
+        same = rw (f, e, g .same);
+        valid = record { inside = rw f (settled-valid _ (g .valid) (rw e (marked-length 0 startedMark (p .marks) ∙ h .full)) first-order) };
+      }

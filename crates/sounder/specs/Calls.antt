@@ -2,7 +2,7 @@
 -- nothing.
 use Prim.Native.Nat.{ℕ}
 use mathlib.Core.Bool.{true}
-use mathlib.Core.List.{List}
+use mathlib.Core.List.{List, map}
 use Rattle.config.specs.Config.{defaultDuty}
 use Rattle.config.specs.declared.AudioConfig.{AudioConfig}
 use Rattle.envelope.specs.declared.AdsrSpec.{AdsrSpec}
@@ -58,10 +58,10 @@ banked p rate count len =
     let c = M.banked (p .mixer) rate count len in
     changedBox (c .outcome) (beside (c .mixer) (bankMarks (c .outcome) (p .marks)))
 
--- The voice that a request got was started; "A refusal changes nothing" (`requests`). A payload that fails is refused with 15 or 16, document 02's
--- numbers.
+-- The voice that a request got was started, and is the youngest; "A refusal changes nothing" (`requests`). A payload that fails is refused with 15 or 16,
+-- document 02's numbers.
 abbrev pub played : Present → List ℕ → Request → SounderPlayed
-played p bytes r = let q = playedPresent true p bytes r in playedBox (q .outcome) (q .present)
+played p bytes r = let q = playedPresent p bytes r in playedBox (q .outcome) (q .present)
 
 -- "A fade starts voice 1". Voice 0 was released and may be inaudible, also where the fade was refused at its entry start, with 10, 15 or 16: "The
 -- release of voice 0 by a fade now goes with these."
@@ -80,3 +80,7 @@ toned p hz ms waveform = settled (beside (P.toned (p .mixer) hz ms waveform) (ma
 
 abbrev pub polyBleped : Present → ℕ → ℕ → PolyBlepWaveform → Present
 polyBleped p hz ms waveform = settled (beside (P.polyBleped (p .mixer) hz ms waveform) (markedAt 0 startedMark (p .marks)))
+
+-- the rank of each voice, 0 the oldest; 255 for one that has none
+abbrev pub ranksIn : Present → List ℕ
+ranksIn p = map (λ k. k .rank) (p .marks .voices)

@@ -3,18 +3,20 @@ ghost use mathlib.Core.Path.{_≡_};
 ghost use mathlib.Core.Bool.{true};
 ghost use lib.ListN.{length};
 ghost use Rattle.laws.specs.Made.{Made};
-ghost use Rattle.allocate.specs.Allocation.{allocated, toldPlace};
+ghost use Rattle.allocate.specs.Allocation.{allocatedOldest, toldPlace};
 ghost use Rattle.bank.specs.Banks.{payloadUnder, toldPayload, payloadPart};
 ghost use Rattle.bank.specs.Entries.{toldEntry};
 ghost use Rattle.bank.specs.Search.{foundGiven};
 ghost use Rattle.frame.specs.Lasting.{framesLeft};
 ghost use Rattle.mixer.specs.Mixers as M;
 ghost use Rattle.sounder.specs.Sounders.{ValidSounder, ValidSounderChanged, boxed};
-ghost use Rattle.sounder.specs.Calls.{opened, panned, withMasterGain, stopped, bankMarks, banked};
+ghost use Rattle.sounder.specs.Calls.{opened, panned, withMasterGain, stopped, bankMarks, banked, ranksIn};
+ghost use mathlib.Core.List.{map};
 use allocate::Allocated;
 use bank::EntryRead;
 use bank::PayloadRead;
 use config::AudioConfig;
+use marks::Mark;
 use marks::Marks;
 use marks::Present;
 use mixer::Mixer;
@@ -53,6 +55,17 @@ fn bank_marks(outcome: Outcome, marks: Marks) -> Marks
         Outcome::Done => Marks::none(marks.master),
         Outcome::Refused(_) => marks,
     }
+}
+
+fn ranks_of(marks: [Mark; 16]) -> [u8; 16]
+    ensures { λ r. ⌜ r ≡ map (λ k. k .rank) marks ⌝ }
+{
+    let mut ranks: [u8; 16] = [255; 16];
+    for i in 0..16 {
+        let k = marks[i];
+        ranks[i] = k.rank;
+    }
+    ranks
 }
 
 impl Sounder {
@@ -124,6 +137,15 @@ impl Sounder {
         m.voice(idx)
     }
 
+    // The rank of each voice among the audible ones, by when it was started: 0 the oldest, 255 for a voice that is inaudible.
+    pub fn ranks(self) -> [u8; 16]
+        ensures { λ r. ⌜ r ≡ ranksIn (self .state) ⌝ }
+    {
+        let k = self.state.marks;
+        let marks = k.voices;
+        ranks_of(marks)
+    }
+
     pub fn voice_pan(self, idx: usize) -> PanRead
         requires { ⌜ ValidSounder self ⌝ }
         ensures { λ r. ⌜ r ≡ M.panRead (self .state .mixer) idx ⌝ }
@@ -185,10 +207,9 @@ impl Sounder {
 
     pub fn allocate_voice(self, priority: u8) -> Allocated
         requires { ⌜ ValidSounder self ⌝ }
-        ensures { λ r. ⌜ toldPlace r ≡ allocated (self .state .mixer) priority ⌝ }
+        ensures { λ r. ⌜ toldPlace r ≡ allocatedOldest (self .state) priority ⌝ }
     {
-        let m = self.state.mixer;
-        allocate::allocate_voice(m, priority)
+        allocate::allocate_oldest(self.state, priority)
     }
 
     pub fn find_by_id(self, bytes: &[u8], id: u16) -> EntryRead

@@ -46,7 +46,7 @@ impl Sounder {
             adsr,
             priority,
         };
-        let q = requests::play_request(self.state, bytes, request, true);
+        let q = requests::play_request(self.state, bytes, request);
         let outcome = q.outcome;
         let state = q.present;
         SounderPlayed {

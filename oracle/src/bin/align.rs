@@ -40,7 +40,7 @@ type Aligned<'a> = (&'a [u8], Vec<&'a [u8]>);
 /// The records that were read, each with its answer's lines. A bad line is the last of them.
 fn align<'a>(script: &'a [u8], answers: &'a [u8]) -> impl Iterator<Item = Aligned<'a>> {
     let mut answers = lines(answers);
-    let (mut open, mut ended) = (false, false);
+    let (mut open, mut ended) = (Open::Nothing, false);
     lines(script).map_while(move |record| {
         if ended {
             return None;
@@ -51,11 +51,22 @@ fn align<'a>(script: &'a [u8], answers: &'a [u8]) -> impl Iterator<Item = Aligne
         let first = answers.next()?;
         let mut answer = vec![first];
         answer.extend(answers.by_ref().take(more_lines(record, first)));
-        let opens = record.starts_with(b"10") || record.starts_with(b"70");
-        open |= opens && first == b"00";
+        match record.get(..2) {
+            Some(b"10") if first == b"00" => open = Open::Engine,
+            Some(b"70") if first == b"00" => open = Open::Present,
+            _ => (),
+        }
         ended = first == BAD && !LIKE_BAD.iter().any(|form| form.fits(record, open));
         Some((record, answer))
     })
+}
+
+/// What is open, and what a record needs open: nothing, a box of either document, one of the present rules.
+#[derive(Clone, Copy, PartialEq, PartialOrd)]
+enum Open {
+    Nothing,
+    Engine,
+    Present,
 }
 
 /// What the good lines of a record look like.
@@ -64,17 +75,17 @@ struct Form {
     least_digits: usize,
     most_digits: usize,
     greatest_last_byte: u8,
-    needs_engine: bool,
+    needs: Open,
 }
 
 impl Form {
-    const fn of(code: &'static [u8], digits: usize, needs_engine: bool) -> Self {
+    const fn of(code: &'static [u8], digits: usize, needs: Open) -> Self {
         Self {
             code,
             least_digits: digits,
             most_digits: digits,
             greatest_last_byte: 0xFF,
-            needs_engine,
+            needs,
         }
     }
 
@@ -85,7 +96,7 @@ impl Form {
         }
     }
 
-    fn fits(&self, record: &[u8], open: bool) -> bool {
+    fn fits(&self, record: &[u8], open: Open) -> bool {
         let digits = record.len();
         record.starts_with(self.code)
             && (self.least_digits..=self.most_digits).contains(&digits)
@@ -94,7 +105,7 @@ impl Form {
                 .iter()
                 .all(|byte| matches!(byte, b'0'..=b'9' | b'A'..=b'F'))
             && hex(&record[digits - 2..]) <= self.greatest_last_byte as u64
-            && (open || !self.needs_engine)
+            && open >= self.needs
     }
 }
 
@@ -102,20 +113,21 @@ impl Form {
 const SILENT: [Form; 6] = [
     Form {
         most_digits: 8_194,
-        ..Form::of(b"12", 2, false)
+        ..Form::of(b"12", 2, Open::Nothing)
     },
-    Form::of(b"15", 16, true).with_last_up_to(2),
-    Form::of(b"16", 16, true).with_last_up_to(3),
-    Form::of(b"17", 6, true),
-    Form::of(b"18", 4, true),
-    Form::of(b"19", 2, true),
+    Form::of(b"15", 16, Open::Engine).with_last_up_to(2),
+    Form::of(b"16", 16, Open::Engine).with_last_up_to(3),
+    Form::of(b"17", 6, Open::Engine),
+    Form::of(b"18", 4, Open::Engine),
+    Form::of(b"19", 2, Open::Engine),
 ];
 
 /// The records whose answer may look like that to a bad line.
-const LIKE_BAD: [Form; 3] = [
-    Form::of(b"2B", 2, true),
-    Form::of(b"43", 4, false),
-    Form::of(b"52", 10, false),
+const LIKE_BAD: [Form; 4] = [
+    Form::of(b"2B", 2, Open::Engine),
+    Form::of(b"43", 4, Open::Nothing),
+    Form::of(b"52", 10, Open::Nothing),
+    Form::of(b"7A", 2, Open::Present),
 ];
 
 /// The lines after the first: each voice of a dump; and one for the envelope records, the duty mapper, a source or a voice
@@ -141,7 +153,8 @@ fn count(script: &[u8], answers: &[u8]) {
     let (mut records, mut plays, mut frames) = (0, 0, 0);
     for (record, answer) in align(script, answers) {
         records += 1;
-        plays += ((record.starts_with(b"13") || record.starts_with(b"62")) && answer[0] != BAD) as u32;
+        plays +=
+            ((record.starts_with(b"13") || record.starts_with(b"62")) && answer[0] != BAD) as u32;
         frames += frames_of(record, &answer);
     }
     println!("{records} {plays} {frames}");

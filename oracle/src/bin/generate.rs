@@ -20,6 +20,8 @@ mod engine;
 mod enginebad;
 #[path = "generate/lengths.rs"]
 mod lengths;
+#[path = "generate/orders.rs"]
+mod orders;
 #[path = "generate/payloads.rs"]
 mod payloads;
 #[path = "generate/plays.rs"]
@@ -45,7 +47,8 @@ const USAGE: &str = "usage: generate random SEED COUNT  COUNT good records
        generate bad SEED COUNT     up to COUNT good records, a bad line, more lines
        generate all NAME [COUNT]   a whole set; COUNT is for db, the floats spread over all bit patterns
        generate names              the names of the sets
-       generate engine NAME SEED COUNT  a run of an engine: COUNT banks for banks and payloads, else about or up to COUNT records
+       generate engine NAME SEED COUNT  a run of an engine: COUNT banks for banks and payloads, all orders of COUNT calls for orders,
+                                   else about or up to COUNT records
        generate engine-names       the names of the runs without frames
        generate frame-names        the names of the runs with frames
        generate recorded [engine|frames]  the recorded list, with an engine's records and its frames if asked
@@ -88,7 +91,12 @@ fn print(arguments: &[&str]) -> Option<()> {
                 names(&mut script, &engine::PRESENT_NAMES);
             }
         }
-        ["frame-names"] => names(&mut script, &engine::FRAME_NAMES),
+        ["frame-names"] => {
+            names(&mut script, &engine::FRAME_NAMES);
+            if script.present {
+                names(&mut script, &engine::PRESENT_FRAME_NAMES);
+            }
+        }
         ["recorded"] => recorded::print(&mut script, None),
         ["recorded", "engine"] => recorded::print(&mut script, Some(false)),
         ["recorded", "frames"] => recorded::print(&mut script, Some(true)),

@@ -1,5 +1,5 @@
 //! Reads a script on standard input and prints the Rust original's answers: the records of the replay format, our own 50 to
-//! 6A, and those of document 02 (docs/REPLAY.md): 70, 82 and 86 by the original with its replacements, 79 by the original, and 80, 81 and
+//! 6A, and those of document 02 (docs/REPLAY.md): 70, 7A, 82 and 86 by the original with its replacements, 79 by the original, and 80, 81 and
 //! 83 to 85, which the original has not. A bad line prints FFFF and ends the run.
 
 #[path = "replay/answers.rs"]
@@ -35,6 +35,13 @@ mod document_01 {
     mod frames;
     mod rules;
 
+    /// Its boxes have no records of their own.
+    mod added {
+        pub fn records<const N: usize>() -> &'static [super::engine::Record<N>] {
+            &[]
+        }
+    }
+
     /// The numbers of a payload that does not lie in the bank.
     const PAYLOAD_NUMBERS: [(AudioError, i64); 1] = [(AudioError::TruncatedBank, TRUNCATED)];
 }
@@ -46,6 +53,7 @@ mod document_02 {
     use original::error::AudioError;
     use present as original;
 
+    mod added;
     mod choices;
     pub mod engine;
     mod frames;

@@ -121,6 +121,7 @@ panned-spec =
     loop-holds
     (λ c. omega (arith, few c))
     few
+    (λ c. omega (arith, few (c .before)))
     (λ c. few (c .before))
     run-requires
     (λ c. omega (arith, few (c .before .before .before .before .before)))

@@ -6,7 +6,7 @@ use borrow.Author.Needs.{needs}
 use Rattle.error.proofs.Told.{refusal-number}
 use Rattle.allocate.specs.Allocation.{toldPlace}
 use Rattle.start.specs.Starts.{toldStart}
-use Rattle.play.specs.Plays.{playedUnder}
+use Rattle.play.specs.Plays.{played}
 use Rattle.mixer.proofs.Laws.{valid-stored}
 use Rattle.allocate.proofs.Choice.{allocated-below}
 use Rattle.play.proofs.play_request.Statement.{statement}
@@ -23,14 +23,14 @@ there c =
     allocated-below (start c .args .m) (start c .args .request .priority) _ (sym (f .allocate-voice .ensures) ∙ ap toldPlace (g .before .before .i .given .1))
 
 returns : tie.Need-returns
-unfolding playedUnder
+unfolding played
 returns c =
     let f = c .before .before in
     let s = f .before .before in
     record { same = rw (sym (f .allocate-voice .ensures) ∙ ap toldPlace (c .enum-told .given .1)); valid = s .pre }
 
 returns-2 : tie.Need-returns-2
-unfolding playedUnder
+unfolding played
 returns-2 c =
     let g = c .before .before .before in
     let f = g .before .before .before .before in
@@ -40,7 +40,7 @@ returns-2 c =
     }
 
 returns-3 : tie.Need-returns-3
-unfolding playedUnder
+unfolding played
 returns-3 c =
     let g = c .before .before .before in
     let f = g .before .before .before .before in

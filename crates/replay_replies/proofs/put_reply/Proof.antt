@@ -45,6 +45,9 @@ returns-11 c = rw (c .before .before .before .enum-told6 .given .1, sym (c .befo
 returns-12 : tie.Need-returns-12
 returns-12 c = rw (c .before .before .before .reply6 .given .1) (c .put-voice-at .ensures)
 
+returns-13 : tie.Need-returns-13
+returns-13 c = rw (c .before .before .enum-told7 .given .1) (c .put-ranks .ensures)
+
 pub put-reply-spec : {M : Type 1} → statement M
 put-reply-spec =
     tie.close
@@ -76,6 +79,8 @@ put-reply-spec =
     (λ c κs. search needs)
     (λ c. search needs)
     (λ c κs. search needs)
+    (λ c. search needs)
+    (λ c κs. search needs)
     returns
     returns-2
     returns-3
@@ -87,4 +92,5 @@ put-reply-spec =
     returns-9
     returns-10
     returns-11
-    returns-12)
+    returns-12
+    returns-13)

@@ -67,6 +67,24 @@ impl Bank {
     /// A bank of that many entries with a tail of so many bytes after them.
     pub fn draw(draw: &mut Draw, count: usize, tail: usize) -> Self {
         let style = Style::draw(draw, count);
+        Self::of(draw, count, tail, style)
+    }
+
+    /// One most of whose entries can be started.
+    pub fn mostly_sound(draw: &mut Draw, count: usize, tail: usize) -> Self {
+        let style = Style {
+            order: Order::Rising,
+            id_span: 2 * count as u32 + 2,
+            ids_from_the_top: false,
+            repeats_one_in: 0,
+            strange_one_in: 0,
+            not_carried_one_in: 16,
+            beyond_one_in: 16,
+        };
+        Self::of(draw, count, tail, style)
+    }
+
+    fn of(draw: &mut Draw, count: usize, tail: usize, style: Style) -> Self {
         let length = HEADER + ENTRY * count + tail;
         let ids = draw_ids(draw, count, &style);
         let mut bytes: Vec<u8> = (0..HEADER).map(|_| draw.u8()).collect();

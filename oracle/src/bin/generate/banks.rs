@@ -2,7 +2,7 @@
 
 use crate::bank::{self, Bank, ENTRY, HEADER, MOST_BYTES, MOST_ENTRIES};
 use crate::draw::Draw;
-use crate::script::{Script, lend, u8, u16, u32};
+use crate::script::{Script, WHOLE_STATE, lend, u8, u16, u32};
 
 /// The sizes that the scripts of successive seeds go through.
 const SIZES: u64 = 201;
@@ -12,7 +12,7 @@ pub fn print(script: &mut Script, seed: u64, count: u64) {
     let mut draw = script.draw(seed);
     let draw = &mut draw;
     open(script, draw);
-    script.after_each = if script.present { &[0x30] } else { &[] };
+    script.after_each = if script.present { WHOLE_STATE } else { &[] };
     for number in 0..count {
         let large = MOST_ENTRIES - draw.below(55) as usize;
         let size = match draw.one_in(12) {

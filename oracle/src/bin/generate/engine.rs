@@ -2,8 +2,8 @@
 
 use crate::enginebad::{self, ENGINE, FRAMES, OPEN_PRESENT};
 use crate::plays::{self, Among};
-use crate::script::Script;
-use crate::{banks, drift, payloads};
+use crate::script::{PRESENT_ONLY, Script};
+use crate::{banks, drift, orders, payloads};
 
 type Print = fn(&mut Script, u64, u64);
 
@@ -14,7 +14,9 @@ pub const NAMES: [(&str, Print); 3] = [
     }),
     ("enginebad", |script, seed, count| {
         let codes = engine_codes(script);
-        enginebad::print(script, seed, count as u32, &codes, &codes)
+        let added: &[u8] = if script.present { &PRESENT_ONLY } else { &[] };
+        let spoilt = [&codes[..], added].concat();
+        enginebad::print(script, seed, count as u32, &spoilt, &codes)
     }),
 ];
 
@@ -35,6 +37,14 @@ pub const FRAME_NAMES: [(&str, Print); 4] = [
     }),
 ];
 
+/// Those of the present rules.
+pub const PRESENT_FRAME_NAMES: [(&str, Print); 2] = [
+    ("ages", |script, seed, count| {
+        plays::print(script, seed, count, Among::Ages)
+    }),
+    ("orders", orders::print),
+];
+
 fn engine_codes(script: &Script) -> Vec<u8> {
     let mut codes = ENGINE.to_vec();
     codes.extend(script.present.then_some(OPEN_PRESENT));
@@ -43,7 +53,8 @@ fn engine_codes(script: &Script) -> Vec<u8> {
 
 /// Nothing where there is no such name.
 pub fn print(script: &mut Script, name: &str, seed: u64, count: u64) -> Option<()> {
-    let mut named = NAMES.iter().chain(&FRAME_NAMES).chain(&PRESENT_NAMES);
+    let present = PRESENT_NAMES.iter().chain(&PRESENT_FRAME_NAMES);
+    let mut named = NAMES.iter().chain(&FRAME_NAMES).chain(present);
     let print = named.find(|named| named.0 == name)?.1;
     print(script, seed, count);
     Some(())
@@ -69,8 +80,10 @@ pub fn recorded(script: &mut Script, frames: bool) {
 /// For the recorded list: boxes of both documents.
 pub fn recorded_present(script: &mut Script) {
     banks::print(script, 1, 3);
-    plays::print(script, 4, 300, Among::Frames);
-    plays::print(script, 6, 300, Among::Fades);
+    plays::print(script, 4, 450, Among::Frames);
+    plays::print(script, 6, 450, Among::Fades);
     payloads::recorded(script);
+    plays::print(script, 1, 600, Among::Ages);
+    orders::print(script, 7, 2);
     script.ends_with_newline = true;
 }

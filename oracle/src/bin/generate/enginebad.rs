@@ -1,7 +1,7 @@
 //! Scripts of an engine with one bad line, after which nothing is answered: each record of an engine, bad in each way.
 
 use crate::draw::Draw;
-use crate::script::{Line, Script, lend, record, u8, u16, u32};
+use crate::script::{Line, PRESENT_ONLY, Script, lend, record, u8, u16, u32};
 
 pub const ENGINE: [u8; 21] = [
     0x10, 0x11, 0x12, 0x13, 0x14, 0x15, 0x16, 0x17, 0x18, 0x19, 0x1A, 0x1B, 0x1C, 0x1D, 0x30, 0x62,
@@ -23,6 +23,7 @@ type Spoil = fn(&mut Draw, u8) -> Line;
 
 /// The last way is to come before an engine is open.
 const WAYS: [Spoil; 6] = [short, long, lower_case, other_byte, bad_field, good];
+const BAD_FIELD: usize = 4;
 
 /// A run of good records of the codes in `all`, then a bad one of a code in `spoilt`, then more good ones. The seed chooses
 /// code and way in turn, so that as many seeds as there are of both together have each once.
@@ -41,6 +42,11 @@ pub fn print(script: &mut Script, seed: u64, count: u32, spoilt: &[u8], all: &[u
     let bad = match code {
         // These may come before an engine is open.
         0x10 | 0x12 | OPEN_PRESENT if before_open => unknown(draw),
+        // Good, in a box that has it not.
+        _ if way == BAD_FIELD && PRESENT_ONLY.contains(&code) => {
+            script.add(&open(0x10, 2, 8_000, 1_000, 0, 0));
+            good(draw, code)
+        }
         _ => WAYS[way](draw, code),
     };
     script.add(&bad);

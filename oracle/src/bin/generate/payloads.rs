@@ -2,7 +2,7 @@
 
 use crate::bank::{self, ENTRY, HEADER, MOST_BYTES, lengths, offsets};
 use crate::draw::Draw;
-use crate::script::{Field, Script, lend, u8, u16, u32};
+use crate::script::{Field, Script, WHOLE_STATE, lend, u8, u16, u32};
 
 /// Every kind, the ones that are started in between.
 const KINDS: [u8; 6] = [0, 3, 2, 1, 4, 5];
@@ -26,7 +26,7 @@ pub fn print(script: &mut Script, seed: u64, count: u64) {
         let places = places(length);
         for code in codes(&mut draw) {
             open(script, code, voices);
-            script.after_each = &[0x30];
+            script.after_each = WHOLE_STATE;
             every(script, &mut draw, &places, tail, seed as usize);
             script.after_each = &[];
         }

@@ -3,7 +3,7 @@
 use crate::bank::{self, Bank};
 use crate::banks;
 use crate::draw::Draw;
-use crate::script::{Field, Script, lend, u8, u16, u32};
+use crate::script::{Field, Script, WHOLE_STATE, lend, u8, u16, u32};
 
 const MOST_VOICES: u8 = 16;
 const RATES: [u32; 14] = [
@@ -18,14 +18,18 @@ enum Priorities {
     Any,
     Spread,
     Rising,
+    /// As many equal ones as there are voices, then as many of the next.
+    Levels,
 }
 
-/// What a run has among its calls: no frames, frames, or frames and many fades, with what is left of them after every record.
+/// What a run has among its calls: no frames, frames, frames and many fades, with what is left of them after every record, or frames, fades and
+/// starts of all kinds at equal priorities.
 #[derive(Clone, Copy, PartialEq)]
 pub enum Among {
     Nothing,
     Frames,
     Fades,
+    Ages,
 }
 
 struct Plays<'a> {
@@ -34,6 +38,8 @@ struct Plays<'a> {
     among: Among,
     voices: u8,
     priorities: Priorities,
+    /// The first of the levels.
+    level: u8,
     requests: u8,
     bank: Bank,
 }
@@ -43,8 +49,8 @@ pub fn print(script: &mut Script, seed: u64, count: u64, among: Among) {
     script.after_each = match (among == Among::Fades, script.present) {
         (false, false) => &[],
         (true, false) => &[0x79],
-        (false, true) => &[0x30],
-        (true, true) => &[0x79, 0x30],
+        (false, true) => WHOLE_STATE,
+        (true, true) => &[0x79, 0x30, 0x7A],
     };
     let mut draw = script.draw(seed);
     examples(script, &mut draw);
@@ -56,6 +62,7 @@ pub fn print(script: &mut Script, seed: u64, count: u64, among: Among) {
         among,
         voices: ((seed * 5) % (MOST_VOICES as u64 + 1)) as u8,
         priorities: Priorities::Few,
+        level: 0,
         requests: 0,
         bank,
     };
@@ -124,6 +131,9 @@ impl<'a> Plays<'a> {
         if self.draw.present && self.draw.one_in(40) {
             self.open_next();
         }
+        if self.among == Among::Ages {
+            return self.aging_step();
+        }
         if self.among != Among::Nothing && self.draw.one_in(2) {
             self.frame();
         } else if self.among == Among::Fades && self.draw.one_in(4) {
@@ -144,16 +154,43 @@ impl<'a> Plays<'a> {
         }
     }
 
-    /// Each engine has another number of voices: 17 of them go through all.
+    /// Mostly starts of a voice; fades and frames, by which voices end in the middle; stops and new banks at times.
+    fn aging_step(&mut self) {
+        match self.draw.below(24) {
+            0..=6 => self.frame(),
+            7..=10 => self.fade(),
+            11 => self.tone(),
+            12 => self.polyblep(),
+            13 => self.allocate(),
+            14 => self.plain_play(),
+            15 if self.draw.one_in(4) => self.stop_all(),
+            15 if self.draw.one_in(3) => self.new_bank(),
+            16 if self.draw.one_in(4) => self.burst(),
+            _ => self.play(),
+        }
+    }
+
+    /// Each engine has another number of voices: 17 of them go through all. Ages are told apart by few voices as well as by many, and two of them end.
     fn open_next(&mut self) {
         self.voices = (self.voices + 1) % (MOST_VOICES + 1);
+        if self.among == Among::Ages && self.draw.one_in(2) {
+            self.voices = 2 + self.draw.below(4) as u8;
+        }
         self.open();
     }
 
     fn open(&mut self) {
         let draw = &mut self.draw;
-        use Priorities::{Any, Few, Rising, Spread};
-        self.priorities = draw.pick(&[Few, Few, Any, Spread, Rising]);
+        use Priorities::{Any, Few, Levels, Rising, Spread};
+        self.priorities = match self.among == Among::Ages {
+            true => draw.pick(&[Few, Levels, Levels, Levels]),
+            false => draw.pick(&[Few, Few, Any, Spread, Rising]),
+        };
+        // A tone has priority 0, a fade's sound 128.
+        self.level = match self.among == Among::Ages {
+            true => draw.pick(&[0, 1, 124, 127, 128]),
+            false => 0,
+        };
         self.requests = 0;
         let rates = [draw.pick(&RATES), draw.pick(&RATES), draw.below(65_538)];
         let (period, gain) = (draw.u16().max(2), draw.gain());
@@ -206,7 +243,10 @@ impl<'a> Plays<'a> {
         let large = self.draw.below(40) as usize;
         let count = self.draw.pick(&[1, 2, 4, 6, 9, large]);
         let tail = bank::tail(&mut self.draw, count);
-        self.bank = Bank::draw(&mut self.draw, count, tail);
+        self.bank = match self.among == Among::Ages {
+            true => Bank::mostly_sound(&mut self.draw, count, tail),
+            false => Bank::draw(&mut self.draw, count, tail),
+        };
         self.script.add(&lend(&self.bank.bytes));
         self.set_bank();
     }
@@ -264,6 +304,14 @@ impl<'a> Plays<'a> {
             Priorities::Any => self.draw.u8(),
             Priorities::Spread => 85 * self.draw.below(4) as u8,
             Priorities::Rising => self.requests,
+            Priorities::Levels => {
+                let level = self
+                    .level
+                    .saturating_add(self.requests / self.voices.max(1));
+                let (above, below) = (level.saturating_add(1), level.saturating_sub(1));
+                let near = [level, level, level, level, above, below];
+                self.draw.pick(&near)
+            }
         }
     }
 

@@ -87,14 +87,22 @@ pub fn lend(bytes: &[u8]) -> Line {
     record(0x12, &fields)
 }
 
+/// The records that a box of the present rules alone has.
+pub const PRESENT_ONLY: [u8; 1] = [0x7A];
+
+/// The whole state of a box: the dump, and what the present rules add to it.
+pub const WHOLE_STATE: &[u8] = &[0x30, 0x7A];
+
 /// A script on its way out. A newline goes before every line but the first, so that the last can be left without one.
 pub struct Script {
     out: BufWriter<Stdout>,
     pub ends_with_newline: bool,
     /// How many lines it has so far.
     pub lines: u64,
-    /// Records without fields that come after every other one.
+    /// Records without fields that come after every other one, if the open box has them.
     pub after_each: &'static [u8],
+    /// The code by which the open box was opened; 0 where none is open.
+    open: u8,
     /// Whether boxes of both documents are opened.
     pub present: bool,
 }
@@ -106,6 +114,7 @@ impl Script {
             ends_with_newline: true,
             lines: 0,
             after_each: &[],
+            open: 0,
             present: false,
         }
     }
@@ -121,7 +130,8 @@ impl Script {
         self.line(line);
         for code in self.after_each {
             let after = record(*code, &[]);
-            if after != line {
+            let known = self.open == 0x70 || !PRESENT_ONLY.contains(code);
+            if known && after != line {
                 self.line(&after);
             }
         }
@@ -136,6 +146,9 @@ impl Script {
     }
 
     pub fn record(&mut self, code: u8, fields: &[Field]) {
+        if is_opened(code, fields) {
+            self.open = code;
+        }
         self.add(&record(code, fields));
     }
 
@@ -150,5 +163,15 @@ impl Script {
     fn write(&mut self, bytes: &[u8]) {
         let written = self.out.write_all(bytes);
         written.unwrap_or_else(|_| std::process::exit(1));
+    }
+}
+
+/// Whether a record opens a box: of those that would some are refused.
+fn is_opened(code: u8, fields: &[Field]) -> bool {
+    match (code, fields) {
+        (0x10 | 0x70, [voices, rate, period, ..]) => {
+            voices.0 <= 16 && rate.0 <= 65_537 && period.0 >= 2
+        }
+        _ => false,
     }
 }

@@ -1,5 +1,6 @@
 //! Records of an engine: all that needs one open, frames apart.
 
+use super::added;
 use super::choices::Choices;
 use super::frames;
 use super::original::bank::SoundBank;
@@ -17,11 +18,14 @@ static HELD: [u8; MOST_LENT] = [0; MOST_LENT];
 
 type Answer<const N: usize> = fn(&mut Engine<N>, &mut Call) -> Answered;
 
+/// Code, number of bytes after it, and what answers it.
+pub type Record<const N: usize> = (u8, usize, Answer<N>);
+
 struct Records<const N: usize>;
 
 impl<const N: usize> Records<N> {
-    /// Code, number of bytes after it, and what answers it.
-    const ALL: [(u8, usize, Answer<N>); 35] = [
+    /// Those of both documents.
+    const ALL: [Record<N>; 35] = [
         (0x11, 6, set_bank),
         (0x13, 10, play),
         (0x14, 11, fade),
@@ -62,7 +66,8 @@ impl<const N: usize> Records<N> {
 
 impl<const N: usize> Mixer for Engine<N> {
     fn answer(&mut self, code: u8, call: &mut Call) -> Answered {
-        let record = Records::<N>::ALL.iter().find(|record| record.0 == code);
+        let mut records = Records::<N>::ALL.iter().chain(added::records());
+        let record = records.find(|record| record.0 == code);
         let (_, length, answer) = record.ok_or(Bad)?;
         if call.fields.0.len() != *length {
             return Err(Bad);

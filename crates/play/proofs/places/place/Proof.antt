@@ -3,7 +3,7 @@ use mathlib.Core.Path.{_≡_, sym, ap, _∙_}
 use lib.ListN.{take}
 use Rattle.allocate.specs.Allocation.{toldPlace}
 use Rattle.start.specs.Starts.{toldStart}
-use Rattle.allocate.specs.Ranked.{boundOf, lowestRank}
+use Rattle.allocate.specs.Keys.{boundOf, lowestKey}
 use borrow.Author.Needs.{needs}
 use Rattle.play.proofs.places.place.Statement.{statement}
 use Rattle.play.proofs.places.place.Tie as tie
@@ -12,7 +12,7 @@ abbrev start : tie.After-lowest → tie.Start
 start c = c .before .before .before .before
 
 -- the allocation, by the bound
-allocation : (c : tie.After-lowest) → lowestRank (take (start c .args .n) (start c .args .ranks .now)) (boundOf (start c .args .policy) (start c .args .request .priority)) ≡ toldPlace (c .lowest .result)
+allocation : (c : tie.After-lowest) → lowestKey (take (start c .args .n) (start c .args .keys .now)) (boundOf (start c .args .policy) (start c .args .request .priority)) ≡ toldPlace (c .lowest .result)
 allocation c = sym (rw (c .before .bound .ensures) at (c .lowest .ensures))
 
 returns : tie.Need-returns

@@ -9,14 +9,14 @@ use Rattle.render_account.proofs.words.voiced.Tie as tie
 returns : tie.Need-returns
 unfolding voiceText
 returns c =
-    let after-say2 = c .before .before in
-    let after-if1 = after-say2 .before .before in
+    let after-is-present = c .before in
+    let after-if1 = after-is-present .before in
     let after-is-audible = after-if1 .before in
     let after-v = after-is-audible .before .before in
     let after-voice = after-v .before .before in
     let after-count = after-voice .before in
     let after-say = after-count .before in
-    rw (sym (after-voice .voice .ensures), after-v .v .given .1, sym (after-is-audible .is-audible .ensures), after-if1 .if1 .taken) (joined (joined (after-say .say .ensures) (after-count .count .ensures)) (joined (after-say2 .say2 .ensures) (c .count2 .ensures)))
+    rw (sym (after-voice .voice .ensures), after-v .v .given .1, sym (after-is-audible .is-audible .ensures), after-if1 .if1 .taken, sym (after-is-present .is-present .ensures)) (joined (joined (after-say .say .ensures) (after-count .count .ensures)) (c .taken .ensures))
 
 returns-2 : tie.Need-returns-2
 unfolding voiceText
@@ -36,4 +36,4 @@ returns-3 c =
     rw (sym (after-voice .voice .ensures), after-v .v .given .1, sym (c .before .is-audible .ensures), c .if1 .left) (nothing (joined (after-say .say .ensures) (after-count .count .ensures)))
 
 pub voiced-spec : {M : Type 1} → statement M
-voiced-spec = tie.close (tie.spec (λ c. search needs) (λ c κs. search needs) (λ c κs. search needs) (λ c κs. search needs) (λ c. search needs) (λ c. search needs) (λ c κs. search needs) (λ c. search needs) (λ c κs. search needs) (λ c. search needs) (λ c κs. search needs) returns returns-2 returns-3)
+voiced-spec = tie.close (tie.spec (λ c. search needs) (λ c κs. search needs) (λ c κs. search needs) (λ c κs. search needs) (λ c. search needs) (λ c. search needs) (λ c κs. search needs) (λ c κs. search needs) (λ c κs. search needs) returns returns-2 returns-3)

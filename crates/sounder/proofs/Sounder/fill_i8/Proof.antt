@@ -1,9 +1,15 @@
 -- The parts' frames, settled once at the end. Assumes nothing.
 use borrow.Author.Needs.{needs}
 use Rattle.buffers.specs.Buffers.{toI8}
-use Rattle.sounder.proofs.Buffered.{shape-settled}
+use Rattle.sounder.proofs.Buffered.{shape-order, shape-settled}
 use Rattle.sounder.proofs.Sounder.fill_i8.Statement.{statement}
 use Rattle.sounder.proofs.Sounder.fill_i8.Tie as tie
+
+settled-requires : tie.Need-settled-requires
+settled-requires c κs =
+    let x = c .before .before in
+    let s = x .before .before in
+    shape-order toI8 (s .args .shape) (s .args .self .state) (s .pre .inside) (x .fill-i8 .ensures)
 
 returns : tie.Need-returns
 returns c =
@@ -12,4 +18,4 @@ returns c =
     shape-settled toI8 (s .args .shape) (s .args .self .state) (s .pre .inside) (c .settled .ensures) (x .fill-i8 .ensures)
 
 pub fill-i8-spec : {M : Type 1} → statement M
-fill-i8-spec = tie.close (tie.spec (λ c κs. c .before .pre .inside .inside) (λ c κs. search needs) (λ c. search needs) returns)
+fill-i8-spec = tie.close (tie.spec (λ c κs. c .before .pre .inside .inside) settled-requires (λ c. search needs) returns)

@@ -2,7 +2,7 @@
 use borrow.Author.Needs.{needs}
 use mathlib.Core.Bool.{true}
 use Rattle.marks.specs.Marks.{Valid}
-use Rattle.requests.specs.Presents.{present}
+use Rattle.requests.specs.Presents.{playerBy}
 use Rattle.requests.proofs.Along.{each-along}
 use Rattle.sounder.specs.Requests.{player}
 use Rattle.sounder.specs.Sounders.{ValidSounder, boxed}
@@ -13,7 +13,7 @@ use Rattle.sounder.proofs.Sounder.play_each.Tie as tie
 returns : tie.Need-returns
 returns c =
     let p = c .before .before .play-each in
-    each-along (present true) player boxed follows _ Valid ValidSounder boxed-valid _ _ _ (p .result) _ (p .ensures)
+    each-along (playerBy true) player boxed follows _ Valid ValidSounder boxed-valid _ _ _ (p .result) _ (p .ensures)
 
 pub play-each-spec : {M : Type 1} → statement M
 play-each-spec = tie.close (tie.spec (λ c κs. search needs) (λ c. search needs) returns)

@@ -1,8 +1,0 @@
--- `allocate::ranks::bound` meets its contract. Assumes nothing.
-use borrow.Author.Needs.{needs}
-use native.Mathlib.Numerals.{add-one}
-use Rattle.allocate.proofs.ranks.bound.Statement.{statement}
-use Rattle.allocate.proofs.ranks.bound.Tie as tie
-
-pub bound-spec : {M : Type 1} → statement M
-bound-spec = tie.close (tie.spec (λ c. search needs) (λ c. search needs) (λ c. search needs) (λ c. rw (c .enum-told .given .1, add-one)) (λ c. search needs))

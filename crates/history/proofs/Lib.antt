@@ -1,0 +1,5 @@
+-- How it is proved.
+--     Kept     frames and starts keep the order of the starts
+--     Calls    so does every call, in any order: by-starts; of two voices that are not started the order never changes: same-order
+pub mod Kept
+pub mod Calls

@@ -1,0 +1,64 @@
+-- "Each voice keeps its rank among the audible ones by when it was started": what the starts so far say, by a counter beside the calls. The box
+-- keeps none, so nothing can run over. Assumes nothing.
+use Prim.Native.Nat.{ℕ, suc}
+use mathlib.Core.Path.{_≡_}
+use mathlib.Core.Bool.{true}
+use mathlib.Core.List.{List, [], _∷_}
+use Rattle.error.specs.Told.{Told, value, refused}
+use Rattle.frame.specs.Fades.{marksAdvanced}
+use Rattle.frame.specs.Lasting.{Step, frame, call}
+use Rattle.marks.specs.Marks.{noMarks, markedAt, beside, settled}
+use Rattle.marks.specs.declared.Marks.{Marks}
+use Rattle.mixer.specs.declared.Outcome.{Outcome}
+use Rattle.mixer.specs.declared.Outcome.the-variants as O
+use Rattle.play.specs.Plays.{toldPlay}
+use Rattle.steps.specs.Steps.{Frame, Call, play, tone, polyBlep, bank, pan, masterGain, stop, fade, look}
+use Rattle.sounder.specs.Calls.{played, faded}
+use Rattle.sounder.specs.Steps.{framed, called}
+use Rattle.sounder.specs.declared.Sounder.{Sounder}
+
+-- beside each voice, in place of a rank, the time of its last start; and the time of the next one
+pub record History : Type 0 where
+  pub marks : Marks
+  pub clock : ℕ
+
+-- Nothing was started yet. Times begin at 256, since 255 is none.
+abbrev pub unstarted : History
+unstarted = record { marks = noMarks true; clock = 256 }
+
+abbrev pub startedNow : ℕ → History → History
+startedNow i h = record { marks = markedAt i (record { whole = true; rank = h .clock }) (h .marks); clock = suc (h .clock) }
+
+abbrev pub handedNow : Told ℕ → History → History
+handedNow (value i) h = startedNow i h
+handedNow (refused n) h = h
+
+abbrev pub fadedNow : Outcome → History → History
+fadedNow O.Done h = startedNow 1 h
+fadedNow (O.Refused e) h = h
+
+-- "Tone and PolyBLEP starts count as starts"; a fade starts voice 1. A stop gives the master the present rule.
+abbrev pub calledNow : Call → Sounder → History → History
+calledNow (play bytes r) s h = handedNow (toldPlay (played (s .state) bytes r .outcome)) h
+calledNow (tone hz ms waveform) s h = startedNow 0 h
+calledNow (polyBlep hz ms waveform) s h = startedNow 0 h
+calledNow (bank rate count len) s h = h
+calledNow (pan i q) s h = h
+calledNow (masterGain gain) s h = h
+calledNow stop s h = record { marks = record { voices = h .marks .voices; master = true }; clock = h .clock }
+calledNow (fade bytes id ms adsr) s h = fadedNow (faded (s .state) bytes id ms adsr .outcome) h
+calledNow look s h = h
+
+-- "at a fade's end voice 0, if then audible, takes voice 1's place in age"
+abbrev pub framedNow : Sounder → History → History
+framedNow s h = record { marks = marksAdvanced (s .state .mixer) (h .marks); clock = h .clock }
+
+-- after calls and frames in any order
+unfoldable pub historyOf : List (Step Frame Call) → Sounder → History → History
+historyOf [] s h = h
+historyOf (frame f ∷ ss) s h = historyOf ss (framed f s) (framedNow s h)
+historyOf (call c ∷ ss) s h = historyOf ss (called c s) (calledNow c s h)
+
+-- the box is what its history says: beside an audible voice its rule, and how many audible voices were started before it
+abbrev pub ByHistory : Sounder → History → Type 0
+ByHistory s h = settled (beside (s .state .mixer) (h .marks)) ≡ s .state

@@ -1,0 +1,69 @@
+//! Scripts with every short order of calls by which ages change: of each order a box of the present rules of its own, with the ranks after each call and
+//! who would go next.
+
+use crate::bank::{self, HEADER};
+use crate::script::{Field, Script, lend, u8, u16, u32};
+
+/// An FM sound without end, and a tone of five samples at 1,000 Hz.
+const ENDLESS: u16 = 1;
+const SHORT: u16 = 2;
+
+/// By the first call for frames both fades have ended; voice 0 then has the rest of the tone, which by the second has ended too.
+const FRAMES: u16 = 3;
+
+type Call = fn(&mut Script);
+
+const CALLS: [Call; 8] = [
+    |script| play(script, ENDLESS, 1),
+    |script| play(script, SHORT, 2),
+    |script| script.record(0x15, &[u32(440), u16(0), u8(0)]),
+    |script| fade(script, ENDLESS, 0),
+    |script| fade(script, SHORT, FRAMES),
+    |script| script.record(0x21, &[u16(FRAMES)]),
+    |script| script.record(0x19, &[]),
+    set,
+];
+
+/// Attack, decay, sustain and release: none, so that a release is over at once.
+const ENVELOPE: [Field; 4] = [(0, 2), (0, 2), (100, 1), (0, 2)];
+
+/// All orders of so many calls, on one to four voices, silent at first for the seeds 1 to 4 and all started for the next four.
+pub fn print(script: &mut Script, seed: u64, count: u64) {
+    let voices = 1 + (seed - 1) % 4;
+    let started = if seed > 4 { voices } else { 0 };
+    let mut bytes = vec![0; HEADER];
+    bank::push(&mut bytes, ENDLESS, [2, 0, 200, 0], [440, 150], (0, 0));
+    bank::push(&mut bytes, SHORT, [0, 0, 200, 0], [440, 5], (0, 0));
+    script.add(&lend(&bytes));
+    for number in 0..CALLS.len().pow(count as u32) {
+        open(script, voices as u8);
+        for _ in 0..started {
+            play(script, ENDLESS, 1);
+        }
+        let mut rest = number;
+        for _ in 0..count {
+            CALLS[rest % CALLS.len()](script);
+            rest /= CALLS.len();
+            script.record(0x7A, &[]);
+            script.record(0x1C, &[u8(255)]);
+        }
+    }
+}
+
+fn open(script: &mut Script, voices: u8) {
+    let rest = [u32(1_000), u16(1_000), u8(0), u8(255), u8(0)];
+    script.record(0x70, &[&[u8(voices)], &rest[..]].concat());
+    set(script);
+}
+
+fn set(script: &mut Script) {
+    script.record(0x11, &[u32(1_000), u16(2)]);
+}
+
+fn play(script: &mut Script, id: u16, priority: u8) {
+    script.record(0x13, &[&[u16(id)], &ENVELOPE[..], &[u8(priority)]].concat());
+}
+
+fn fade(script: &mut Script, id: u16, ms: u16) {
+    script.record(0x14, &[&[u16(id), u16(ms)], &ENVELOPE[..]].concat());
+}

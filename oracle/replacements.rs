@@ -13,7 +13,7 @@ pub struct Replacement {
 /// Every gain goes through the one function: envelope, voice and pan in `voice.rs`, master in `engine.rs`. FM's depth, the
 /// interpolations and the fade's mix have sums of their own and stay. Every payload is found by the one lookup, at an entry start too; a
 /// bank that is set is not looked at there. The ages of T-07 are kept beside the voices (`src/ages.rs`): of the calls that start a voice the port
-/// has an entry start, a tone and a PolyBLEP one.
+/// has an entry start, a tone and a PolyBLEP one. T-09's fade is a call beside the old one, which stays; an envelope is handed over whole (`src/voice.rs`).
 pub const REPLACEMENTS: &[Replacement] = &[
     Replacement {
         name: "T-03: gain 255 hands the sample through",
@@ -104,6 +104,63 @@ pub const REPLACEMENTS: &[Replacement] = &[
         old: "            self.voices[1].stop_immediate();\n",
         new: "            self.voices[1].stop_immediate();
             self.ages.end_fade();
+",
+    },
+    Replacement {
+        name: "T-09: which call began the last fade",
+        file: "engine.rs",
+        old: "    crossfade_active: bool,\n",
+        new: "    crossfade_active: bool,\n    sounds_on: bool,\n",
+    },
+    Replacement {
+        name: "T-09: none has begun one at first",
+        file: "engine.rs",
+        old: "            crossfade_active: false,\n",
+        new: "            crossfade_active: false,\n            sounds_on: false,\n",
+    },
+    Replacement {
+        name: "T-09: the call of old began it",
+        file: "engine.rs",
+        old: "        self.crossfade_active = true;\n",
+        new: "        self.crossfade_active = true;\n        self.sounds_on = false;\n",
+    },
+    Replacement {
+        name: "T-09: at its end voice 0 takes voice 1's envelope",
+        file: "engine.rs",
+        old: "            self.voices[0].pan_q8 = self.voices[1].pan_q8;\n",
+        new: "            self.voices[0].pan_q8 = self.voices[1].pan_q8;
+            if self.sounds_on {
+                let envelope = self.voices[1].envelope();
+                self.voices[0].take_envelope(envelope);
+            }
+",
+    },
+    Replacement {
+        name: "T-09: a fade that keeps sounding",
+        file: "engine.rs",
+        old: "    fn advance_crossfade(&mut self) {\n",
+        new: "    /// Voice 1 is started before voice 0 is released, so that a refusal changes nothing.
+    pub fn crossfade_sounding_on(
+        &mut self,
+        effect_id: u16,
+        duration_ms: u16,
+        adsr: AdsrSpec,
+    ) -> Result<(), AudioError> {
+        if N < 2 {
+            return Err(AudioError::VoiceBusy);
+        }
+        let bank = self.bank.ok_or(AudioError::NoBank)?;
+        let entry = bank.find_by_id(effect_id)?;
+        self.start_on_voice(1, &bank, entry, adsr, 128)?;
+        self.voices[0].release();
+        self.crossfade_active = true;
+        self.sounds_on = true;
+        self.crossfade_t_q8 = 0;
+        self.crossfade_step_q8 = crossfade_step_q8(duration_ms, self.config.sample_rate_hz);
+        Ok(())
+    }
+
+    fn advance_crossfade(&mut self) {
 ",
     },
 ];

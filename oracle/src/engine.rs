@@ -34,6 +34,8 @@ impl<'a, const N: usize> AudioEngine<'a, N> {
             stealing_policy: self.stealing_policy,
             #[cfg(present)]
             ages: self.ages,
+            #[cfg(present)]
+            sounds_on: self.sounds_on,
             #[cfg(feature = "fm")]
             fm_mapper: self.fm_mapper,
         }

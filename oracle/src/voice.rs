@@ -15,6 +15,18 @@ impl Peek for Voice<'_> {
     }
 }
 
+/// An envelope, as it stands, from one voice to another: document 02's T-09.
+#[cfg(present)]
+impl Voice<'_> {
+    pub fn envelope(&self) -> Adsr {
+        self.adsr
+    }
+
+    pub fn take_envelope(&mut self, envelope: Adsr) {
+        self.adsr = envelope;
+    }
+}
+
 impl Voice<'_> {
     /// The same voice, for a longer time: of the sources that are carried over none holds a part of the bank.
     pub fn kept(self) -> Voice<'static> {

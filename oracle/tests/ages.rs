@@ -246,7 +246,7 @@ impl Ages {
                 }
                 self.start(voice);
             }
-            "14" if started => self.start(1),
+            "14" | "73" if started => self.start(1),
             "15" | "16" if !self.voices.is_empty() => self.start(0),
             _ => (),
         }

@@ -261,6 +261,7 @@ fn bad_lines() {
         "827F",
         "827FFFFF",
         "71",
+        "7300010014000000000A0000",
         "7A",
     ] {
         assert_eq!(last(&[record, "4500"]), "FFFF", "{record}");

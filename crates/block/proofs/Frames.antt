@@ -25,7 +25,7 @@ use Rattle.voice.specs.declared.Voice.{Voice}
 use Rattle.voice.specs.declared.StereoGiven.{StereoGiven}
 use Rattle.voice.specs.declared.source.VoiceSource.the-variants as I
 use Rattle.envelope.specs.Adsrs as A
-use Rattle.frame.specs.Fades.{voiceAt, fadeEnded, fadeAt, nextT, advanced, marksEnded, marksAdvanced}
+use Rattle.frame.specs.Fades.{voiceAt, fadeEndedWith, fadeEndedBy, fadeAt, nextT, advancedBy, advanced, marksEnded, marksAdvanced}
 use Rattle.frame.specs.Places.{mapAt}
 use Rattle.marks.specs.declared.Marks.{Marks}
 use Rattle.frame.proofs.Places.{mapAt-map}
@@ -68,18 +68,22 @@ module _ {A : Type 0} where
 abbrev pub moved : Mixer → List Voice → ℕ → Mixer
 moved m vs t = fadeAt (withVoices m vs) t
 
-pub advanced-lasting : (m : Mixer) → Slow m 1 → advanced m ≡ fadeAt m (m .«crossfade_t_q8» + pace m)
-unfolding advanced fadeAt
-advanced-lasting m h = by-active (m .«crossfade_active») refl
+pub advanced-lasting : (on : Bool) (m : Mixer) → Slow m 1 → advancedBy on m ≡ fadeAt m (m .«crossfade_t_q8» + pace m)
+unfolding advancedBy fadeAt
+advanced-lasting on m h = by-active (m .«crossfade_active») refl
   where
     by-active : (a : Bool) → m .«crossfade_active» ≡ a
-        → cond a (cond (eqb (nextT m) 255) (fadeEnded m) (fadeAt m (nextT m))) m ≡ fadeAt m (m .«crossfade_t_q8» + cond a (m .«crossfade_step_q8») 0)
+        → cond a (cond (eqb (nextT m) 255) (fadeEndedBy on m) (fadeAt m (nextT m))) m ≡ fadeAt m (m .«crossfade_t_q8» + cond a (m .«crossfade_step_q8») 0)
     by-active true a =
         let l = h a (omega arith) in
         let e : eqb (nextT m) 255 ≡ false = ne-eqb (nextT m) 255 (λ q. omega arith) in
         let t : nextT m ≡ m .«crossfade_t_q8» + m .«crossfade_step_q8» = omega arith in
         rw (e, t)
     by-active false a = rw add-zero
+
+-- whichever call began the fade
+pub advanced-same : (on : Bool) (m : Mixer) → Slow m 1 → advancedBy on m ≡ advanced m
+advanced-same on m h = advanced-lasting on m h ∙ sym (advanced-lasting false m h)
 
 -- the state after k frames of a fade that goes on after one more
 goes-on : (k : ℕ) (m : Mixer) (vs : List Voice) → Slow m (suc k) → Slow (moved m vs (m .«crossfade_t_q8» + k * pace m)) 1
@@ -126,7 +130,7 @@ runAll k n vs = mapFirst (after voiceStep k) n vs
 
 stereo-one : (m : Mixer) → Slow m 1 → stereoStep m ≡ moved m (runAll 1 (m .n) (m .voices)) (m .«crossfade_t_q8» + pace m)
 unfolding after voiceStep fadeAt stereoFrameBy sampled enveloped
-stereo-one m h = rw (advanced-lasting m h, mapFirst-fuse (λ v. steppedVoice v .voice) tickedVoice (m .n) (m .voices))
+stereo-one m h = rw (advanced-lasting false m h, mapFirst-fuse (λ v. steppedVoice v .voice) tickedVoice (m .n) (m .voices))
 
 pub after-stereo : (k : ℕ) (m : Mixer) → Slow m k → after stereoStep k m ≡ moved m (runAll k (m .n) (m .voices)) (m .«crossfade_t_q8» + k * pace m)
 unfolding after
@@ -178,7 +182,7 @@ pair-one (suc (suc n)) (v ∷ w ∷ vs) h k = refl
 mono-one : (m : Mixer) → Pair (m .n) (m .voices) (m .«crossfade_active») → Slow m 1
     → monoStep m ≡ moved m (runPair 1 (m .n) (m .voices)) (m .«crossfade_t_q8» + pace m)
 unfolding fadeAt monoFrameBy sampled enveloped
-mono-one m p h = rw (advanced-lasting m h, p .0, pair-one (m .n) (m .voices) (p .1) (p .2))
+mono-one m p h = rw (advanced-lasting false m h, p .0, pair-one (m .n) (m .voices) (p .1) (p .2))
 
 pub after-pair : (k : ℕ) (m : Mixer) → Pair (m .n) (m .voices) (m .«crossfade_active») → Slow m k
     → after monoStep k m ≡ moved m (runPair k (m .n) (m .voices)) (m .«crossfade_t_q8» + k * pace m)
@@ -213,17 +217,17 @@ marks-lasting r m h = by-active (m .«crossfade_active») refl
 
 -- outside a fade
 
-advanced-quiet : (m : Mixer) → m .«crossfade_active» ≡ false → advanced m ≡ m
-unfolding advanced
-advanced-quiet m e = rw e
+advanced-quiet : (on : Bool) (m : Mixer) → m .«crossfade_active» ≡ false → advancedBy on m ≡ m
+unfolding advancedBy
+advanced-quiet on m e = rw e
 
 stereo-quiet : (m : Mixer) → m .«crossfade_active» ≡ false → stereoStep m .«crossfade_active» ≡ false
 unfolding stereoFrameBy sampled enveloped
-stereo-quiet m e = rw (advanced-quiet m e) e
+stereo-quiet m e = rw (advanced-quiet false m e) e
 
 mono-stereo : (m : Mixer) → m .«crossfade_active» ≡ false → monoStep m ≡ stereoStep m
 unfolding monoFrameBy stereoFrameBy enveloped
-mono-stereo m e = rw (advanced-quiet m e, e)
+mono-stereo m e = rw (advanced-quiet false m e, e)
 
 after-quiet : (k : ℕ) (m : Mixer) → m .«crossfade_active» ≡ false → after monoStep k m ≡ after stereoStep k m
 unfolding after
@@ -242,7 +246,7 @@ unfolding monoFrameBy monoMix enveloped after
 mono-plain r m e =
     rw (
       marks-quiet r m e,
-      advanced-quiet m e,
+      advanced-quiet (r .«sounds_on») m e,
       e,
       take-mapFirst tickedVoice (m .n) (m .voices),
       mapAt-map (λ i v. S.sampleBy (ruleAt r i) v) tickedVoice 0 (voicesOf m),
@@ -270,7 +274,7 @@ mono-crossed r m p h =
     let there = p .2 in
     rw (
       marks-lasting r m h,
-      advanced-lasting m h,
+      advanced-lasting (r .«sounds_on») m h,
       p .0,
       getD-mapFirst tickedVoice (m .n) 0 (m .voices) (silentVoice 0) (omega arith) (omega arith),
       getD-mapFirst tickedVoice (m .n) 1 (m .voices) (silentVoice 0) (omega arith) (omega arith),
@@ -357,13 +361,13 @@ side-enveloped side r k m t =
       side-sum side r k 0 (voicesOf m),
     )
 
-advanced-moved : (m : Mixer) (vs : List Voice) (t : ℕ) → Slow (moved m vs t) 1 → advanced (moved m vs t) ≡ moved m vs (t + pace m)
+advanced-moved : (on : Bool) (m : Mixer) (vs : List Voice) (t : ℕ) → Slow (moved m vs t) 1 → advancedBy on (moved m vs t) ≡ moved m vs (t + pace m)
 unfolding fadeAt
-advanced-moved m vs t h = advanced-lasting (moved m vs t) h
+advanced-moved on m vs t h = advanced-lasting on (moved m vs t) h
 
 abbrev sideFrame : (StereoGiven → ℤ) → Marks → Mixer → ℤ
 sideFrame side r m =
-    let b = enveloped (advanced m) in
+    let b = enveloped (advancedBy (r .«sounds_on») m) in
     let q = marksAdvanced m r in
     leveled q b (sideTotal side (pairsOf q (voicesOf b)))
 
@@ -376,7 +380,7 @@ side-at : (side : StereoGiven → ℤ) (r : Marks) (k : ℕ) (m : Mixer) → Slo
 side-at side r k m h =
     let vs = runAll k (m .n) (m .voices) in
     let t = m .«crossfade_t_q8» + k * pace m in
-    rw (after-stereo k m (lasts-fewer k m h), marks-lasting r (moved m vs t) (goes-on k m vs h), advanced-moved m vs t (goes-on k m vs h))
+    rw (after-stereo k m (lasts-fewer k m h), marks-lasting r (moved m vs t) (goes-on k m vs h), advanced-moved (r .«sounds_on») m vs t (goes-on k m vs h))
     (level-kept r m vs (t + pace m) (sideTotal side (pairsOf r (voicesOf (enveloped (moved m vs (t + pace m))))))
     ∙ ap (leveled r m) (side-enveloped side r k m (t + pace m)))
 
@@ -398,19 +402,19 @@ pub record Ends (m : Mixer) : Type 0 where
   pub active : m .«crossfade_active» ≡ true
   pub last : 255 ≤ m .«crossfade_t_q8» + m .«crossfade_step_q8»
 
-pub ended-quiet : (m : Mixer) → fadeEnded m .«crossfade_active» ≡ false
-unfolding fadeEnded
-ended-quiet m = refl
+pub ended-quiet : (on : Bool) (m : Mixer) → fadeEndedBy on m .«crossfade_active» ≡ false
+unfolding fadeEndedWith
+ended-quiet on m = refl
 
-ending-is : (m : Mixer) → Ends m → advanced m ≡ fadeEnded m
-unfolding advanced
-ending-is m h =
+ending-is : (on : Bool) (m : Mixer) → Ends m → advancedBy on m ≡ fadeEndedBy on m
+unfolding advancedBy
+ending-is on m h =
     let l = h .last in
     let e : eqb (nextT m) 255 ≡ true = eq-eqb (nextT m) 255 (omega arith) in
     rw (h .active, e)
 
-advanced-ending : (m : Mixer) → Ends m → advanced m ≡ advanced (fadeEnded m)
-advanced-ending m h = ending-is m h ∙ sym (advanced-quiet (fadeEnded m) (ended-quiet m))
+advanced-ending : (on : Bool) (m : Mixer) → Ends m → advancedBy on m ≡ advancedBy on (fadeEndedBy on m)
+advanced-ending on m h = ending-is on m h ∙ sym (advanced-quiet on (fadeEndedBy on m) (ended-quiet on m))
 
 -- the marks go with the sources
 marks-end : (r : Marks) (m : Mixer) → Ends m → marksAdvanced m r ≡ marksEnded r
@@ -420,17 +424,17 @@ marks-end r m h =
     let e : eqb (nextT m) 255 ≡ true = eq-eqb (nextT m) 255 (omega arith) in
     rw (h .active, e)
 
-pub marks-ending : (r : Marks) (m : Mixer) → Ends m → marksAdvanced m r ≡ marksAdvanced (fadeEnded m) (marksEnded r)
-marks-ending r m h = marks-end r m h ∙ sym (marks-quiet (marksEnded r) (fadeEnded m) (ended-quiet m))
+pub marks-ending : (on : Bool) (r : Marks) (m : Mixer) → Ends m → marksAdvanced m r ≡ marksAdvanced (fadeEndedBy on m) (marksEnded r)
+marks-ending on r m h = marks-end r m h ∙ sym (marks-quiet (marksEnded r) (fadeEndedBy on m) (ended-quiet on m))
 
 -- such a frame is the frame of the state with the fade ended, of both kinds
-pub mono-ending : (r : Marks) (m : Mixer) → Ends m → monoFrameBy r m ≡ monoFrameBy (marksEnded r) (fadeEnded m)
+pub mono-ending : (r : Marks) (m : Mixer) → Ends m → monoFrameBy r m ≡ monoFrameBy (marksEnded r) (fadeEndedBy (r .«sounds_on») m)
 unfolding monoFrameBy
-mono-ending r m h = rw (advanced-ending m h, marks-ending r m h)
+mono-ending r m h = rw (advanced-ending (r .«sounds_on») m h, marks-ending (r .«sounds_on») r m h)
 
-pub stereo-ending : (r : Marks) (m : Mixer) → Ends m → stereoFrameBy r m ≡ stereoFrameBy (marksEnded r) (fadeEnded m)
+pub stereo-ending : (r : Marks) (m : Mixer) → Ends m → stereoFrameBy r m ≡ stereoFrameBy (marksEnded r) (fadeEndedBy (r .«sounds_on») m)
 unfolding stereoFrameBy
-stereo-ending r m h = rw (advanced-ending m h, marks-ending r m h)
+stereo-ending r m h = rw (advanced-ending (r .«sounds_on») m h, marks-ending (r .«sounds_on») r m h)
 
 -- frames from two states from which the first step is the same
 module _ {State : Type 0} (step : State → State) (a b : State) (e : step a ≡ step b) where

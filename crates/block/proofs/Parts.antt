@@ -9,7 +9,9 @@ use mathlib.Core.List.{List, [], _∷_, _++_}
 use lib.IntN.{ℤ, pos}
 use lib.ListN.{length, getD, set, drop}
 use lib.Seq.{set-comm, set-set, getD-set-other}
-use Rattle.frame.specs.Fades.{takenOver, fadeEnded, fadeAt}
+use Rattle.envelope.specs.declared.Adsr.{Adsr}
+use Rattle.frame.specs.Fades.{takenOver, envelopeAfter, fadeEndedWith, fadeEndedBy, fadeAt}
+use Rattle.frame.specs.Frames.{oldMarks}
 use Rattle.frame.specs.Presents.{stereoNext, pcmOf, leftSide, rightSide}
 use Rattle.frame.specs.Runs.{monoStep, stereoStep}
 use Rattle.frame.proofs.Laws.{valid-mono, valid-stereo}
@@ -36,10 +38,10 @@ valid-run step keeps zero m h = h
 valid-run step keeps (suc k) m h = valid-run step keeps k (step m) (keeps m h)
 
 pub valid-monos : (k : ℕ) (m : Mixer) → Valid m → Valid (after monoStep k m)
-valid-monos = valid-run monoStep (λ m h. valid-mono {m = m} h)
+valid-monos = valid-run monoStep (λ m h. valid-mono oldMarks {m = m} h)
 
 pub valid-stereos : (k : ℕ) (m : Mixer) → Valid m → Valid (after stereoStep k m)
-valid-stereos = valid-run stereoStep (λ m h. valid-stereo {m = m} h)
+valid-stereos = valid-run stereoStep (λ m h. valid-stereo oldMarks {m = m} h)
 
 -- ---- the element that a loop over the first reads
 pub read-at : {A : Type 0} (f : A → A) (i : ℕ) (l : List A) (d : A) → getD (mapFirst f i l) i d ≡ getD l i d
@@ -80,7 +82,8 @@ others-stored l a b x y =
     rw (set-comm (set l 0 a) 1 0 b x (λ z. omega arith), set-set l 0 a x, set-set (set l 0 x) 1 b y)
 
 -- ---- the end of a fade, as the code stores it
-pub ended-is : (m : Mixer) (d first second : Voice) → 2 ≤ length (m .voices) → first ≡ takenOver (getD (m .voices) 0 d) (getD (m .voices) 1 d)
+pub ended-is : (on : Bool) (m : Mixer) (d first second : Voice) (adsr : Adsr) → 2 ≤ length (m .voices)
+    → first ≡ takenOver adsr (getD (m .voices) 0 d) (getD (m .voices) 1 d) → adsr ≡ envelopeAfter on (getD (m .voices) 0 d) (getD (m .voices) 1 d)
     → second ≡ stoppedVoice (getD (m .voices) 1 d)
     → record {
       n = m .n;
@@ -93,10 +96,10 @@ pub ended-is : (m : Mixer) (d first second : Voice) → 2 ≤ length (m .voices)
       «crossfade_active» = false;
       «stealing_policy» = m .«stealing_policy»;
     }
-    ≡ fadeEnded m
-unfolding fadeEnded
-ended-is m d first second h e f =
-    rw (e, f, getD-any (m .voices) 0 d (silentVoice 0) (omega arith), getD-any (m .voices) 1 d (silentVoice 0) (omega arith))
+    ≡ fadeEndedBy on m
+unfolding fadeEndedWith
+ended-is on m d first second adsr h e g f =
+    rw (e, g, f, getD-any (m .voices) 0 d (silentVoice 0) (omega arith), getD-any (m .voices) 1 d (silentVoice 0) (omega arith))
 
 -- ---- how far a fade goes
 pub fade-frames : {active : Bool} (t step len most r : ℕ) → active ≡ true → t ≤ 254 → 1 ≤ step → most ≡ (254 - t) / step → r ≡ min most len → FadeFrames active t step len r

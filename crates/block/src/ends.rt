@@ -3,10 +3,11 @@ ghost use mathlib.Core.Path.{_≡_};
 ghost use mathlib.Core.Bool.{true};
 ghost use Prim.Native.Nat.{_+_, _*_, _≤_, _<_};
 ghost use Rattle.laws.specs.Made.{Made};
-ghost use Rattle.frame.specs.Fades.{takenOver, fadeEnded, marksEnded};
+ghost use Rattle.frame.specs.Fades.{takenOver, envelopeAfter, fadeEndedBy, marksEnded};
 ghost use Rattle.mixer.specs.Mixers.{Valid};
 ghost use Rattle.voice.specs.Voices as S;
 ghost use Rattle.block.specs.Parts.{FadeFrames, Slow, movedOn, restedOthers};
+use envelope::Adsr;
 use marks::Marks;
 use mixer::Mixer;
 use voice::Voice;
@@ -28,25 +29,32 @@ pub fn fade_frames(active: bool, t: u8, step: u8, len: usize) -> usize
     len
 }
 
-fn taken_over(old: Voice, new: Voice) -> Voice
+// Voice 1's as it is before the frame's tick, where the call that began the fade has voice 0 sound on; else an idle one.
+fn envelope_after(old: Voice, new: Voice, on: bool) -> Adsr
     requires { ⌜ S.Valid old ⌝ }
-    ensures { λ r. ⌜ r ≡ takenOver old new ⌝ }
+    ensures { λ r. ⌜ r ≡ envelopeAfter on old new ⌝ }
 {
+    if on {
+        return new.adsr;
+    }
     let stopped = old.stop_immediate();
-    let source = new.source;
+    stopped.adsr
+}
+
+fn taken_over(adsr: Adsr, old: Voice, new: Voice) -> Voice
+    ensures { λ r. ⌜ r ≡ takenOver adsr old new ⌝ }
+{
     Voice {
-        source,
-        gain_q8: new.gain_q8,
-        priority: new.priority,
-        pan_q8: new.pan_q8,
-        ..stopped
+        adsr,
+        sample_rate_hz: old.sample_rate_hz,
+        ..new
     }
 }
 
 // The frame in which the fade ends begins so.
-pub fn ended(m: Mixer) -> Mixer
+pub fn ended(m: Mixer, on: bool) -> Mixer
     requires { ⌜ Valid m × (m .«crossfade_active» ≡ true) ⌝ }
-    ensures { λ r. ⌜ Made Valid (fadeEnded m) r ⌝ }
+    ensures { λ r. ⌜ Made Valid (fadeEndedBy on m) r ⌝ }
 {
     let mut out = Mixer {
         crossfade_t_q8: 0,
@@ -55,7 +63,8 @@ pub fn ended(m: Mixer) -> Mixer
     };
     let a = m.voices[0];
     let b = m.voices[1];
-    let first = taken_over(a, b);
+    let adsr = envelope_after(a, b, on);
+    let first = taken_over(adsr, a, b);
     out.voices[0] = first;
     let second = b.stop_immediate();
     out.voices[1] = second;

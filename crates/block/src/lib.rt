@@ -128,15 +128,16 @@ fn over_end(
     ensures { λ r. ⌜ Stretch sides p 0 n (now (left .entry)) (now (right .entry)) r (now (left .exit)) (now (right .exit)) ⌝ }
 {
     let m = p.mixer;
-    let marks = ends::marks_ended(p.marks);
+    let old = p.marks;
+    let marks = ends::marks_ended(old);
     if sides {
-        let a = panned(m, p.marks, 0, f, left, right);
-        let b = ends::ended(a);
+        let a = panned(m, old, 0, f, left, right);
+        let b = ends::ended(a, old.sounds_on);
         let mixer = panned(b, marks, f, n - f, left, right);
         return Present { mixer, marks };
     }
-    let a = fading(m, p.marks, f, left);
-    let b = ends::ended(a);
+    let a = fading(m, old, f, left);
+    let b = ends::ended(a, old.sounds_on);
     let mixer = plain(b, marks, f, n - f, left);
     Present { mixer, marks }
 }

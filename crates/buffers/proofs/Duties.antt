@@ -11,7 +11,7 @@ use Rattle.marks.specs.declared.Marks.{Marks}
 use Rattle.marks.specs.declared.Present.{Present}
 use Rattle.mixer.specs.declared.Mixer.{Mixer}
 use Rattle.output.specs.declared.PwmMapper.{PwmMapper}
-use Rattle.frame.specs.Fades.{fadeEnded, fadeAt, nextT, advanced, marksAdvanced}
+use Rattle.frame.specs.Fades.{fadeEndedWith, fadeEndedBy, fadeAt, nextT, advancedBy, marksAdvanced}
 use Rattle.frame.specs.Frames.{enveloped, sampled, monoMix, withMapper, monoGiven, monoFrameBy, dutyFrameBy}
 use Rattle.frame.specs.Presents.{monoNext, pcmOf}
 use Rattle.frame.specs.declared.MonoFrame.{MonoFrame}
@@ -24,16 +24,16 @@ use Rattle.buffers.specs.declared.Level.the-variants.{Duty, U12, U16}
 abbrev mapperIn : MonoFrame → PwmMapper → MonoFrame
 mapperIn f p = record { mixer = withMapper (f .mixer) p; pcm = f .pcm }
 
-advance-mapper : (m : Mixer) (p : PwmMapper) → advanced (withMapper m p) ≡ withMapper (advanced m) p
-unfolding advanced fadeEnded fadeAt
-advance-mapper m p = by-active (m .«crossfade_active»)
+advance-mapper : (on : Bool) (m : Mixer) (p : PwmMapper) → advancedBy on (withMapper m p) ≡ withMapper (advancedBy on m) p
+unfolding advancedBy fadeEndedWith fadeAt
+advance-mapper on m p = by-active (m .«crossfade_active»)
   where
-    by-end : (e : Bool) → cond e (fadeEnded (withMapper m p)) (fadeAt (withMapper m p) (nextT m)) ≡ withMapper (cond e (fadeEnded m) (fadeAt m (nextT m))) p
+    by-end : (e : Bool) → cond e (fadeEndedBy on (withMapper m p)) (fadeAt (withMapper m p) (nextT m)) ≡ withMapper (cond e (fadeEndedBy on m) (fadeAt m (nextT m))) p
     by-end true = refl
     by-end false = refl
 
-    by-active : (a : Bool) → cond a (cond (eqb (nextT m) 255) (fadeEnded (withMapper m p)) (fadeAt (withMapper m p) (nextT m))) (withMapper m p)
-        ≡ withMapper (cond a (cond (eqb (nextT m) 255) (fadeEnded m) (fadeAt m (nextT m))) m) p
+    by-active : (a : Bool) → cond a (cond (eqb (nextT m) 255) (fadeEndedBy on (withMapper m p)) (fadeAt (withMapper m p) (nextT m))) (withMapper m p)
+        ≡ withMapper (cond a (cond (eqb (nextT m) 255) (fadeEndedBy on m) (fadeAt m (nextT m))) m) p
     by-active true = by-end (eqb (nextT m) 255)
     by-active false = refl
 
@@ -43,28 +43,28 @@ given-mapper k m p = refl
 
 mono-mapper : (k : Marks) (m : Mixer) (p : PwmMapper) → monoFrameBy k (withMapper m p) ≡ mapperIn (monoFrameBy k m) p
 unfolding monoFrameBy marksAdvanced
-mono-mapper k m p = rw (advance-mapper m p) (given-mapper (marksAdvanced m k) (advanced m) p)
+mono-mapper k m p = rw (advance-mapper (k .«sounds_on») m p) (given-mapper (marksAdvanced m k) (advancedBy (k .«sounds_on») m) p)
 
 -- a state with another mapper
 abbrev pub mapperAt : Present → PwmMapper → Present
 mapperAt s p = record { mixer = withMapper (s .mixer) p; marks = s .marks }
 
 -- it keeps mapper and configuration
-advance-keeps : (m : Mixer) → (advanced m .mapper ≡ m .mapper) × (advanced m .config ≡ m .config)
-unfolding advanced fadeEnded fadeAt
-advance-keeps m = by-active (m .«crossfade_active»)
+advance-keeps : (on : Bool) (m : Mixer) → (advancedBy on m .mapper ≡ m .mapper) × (advancedBy on m .config ≡ m .config)
+unfolding advancedBy fadeEndedWith fadeAt
+advance-keeps on m = by-active (m .«crossfade_active»)
   where
-    by-end : (e : Bool) → (cond e (fadeEnded m) (fadeAt m (nextT m)) .mapper ≡ m .mapper) × (cond e (fadeEnded m) (fadeAt m (nextT m)) .config ≡ m .config)
+    by-end : (e : Bool) → (cond e (fadeEndedBy on m) (fadeAt m (nextT m)) .mapper ≡ m .mapper) × (cond e (fadeEndedBy on m) (fadeAt m (nextT m)) .config ≡ m .config)
     by-end true = (refl, refl)
     by-end false = (refl, refl)
 
-    by-active : (a : Bool) → let b = cond a (cond (eqb (nextT m) 255) (fadeEnded m) (fadeAt m (nextT m))) m in (b .mapper ≡ m .mapper) × (b .config ≡ m .config)
+    by-active : (a : Bool) → let b = cond a (cond (eqb (nextT m) 255) (fadeEndedBy on m) (fadeAt m (nextT m))) m in (b .mapper ≡ m .mapper) × (b .config ≡ m .config)
     by-active true = by-end (eqb (nextT m) 255)
     by-active false = (refl, refl)
 
 mono-keeps : (s : Present) → (monoNext s .mixer .mapper ≡ s .mixer .mapper) × (monoNext s .mixer .config ≡ s .mixer .config)
 unfolding monoFrameBy enveloped sampled
-mono-keeps s = advance-keeps (s .mixer)
+mono-keeps s = advance-keeps (s .marks .«sounds_on») (s .mixer)
 
 -- ---- and frame after frame
 run-keeps : (n : ℕ) (s : Present) → (after monoNext n s .mixer .mapper ≡ s .mixer .mapper) × (after monoNext n s .mixer .config ≡ s .mixer .config)

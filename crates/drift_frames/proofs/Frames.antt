@@ -8,7 +8,7 @@ use lib.Dec.{ltb}
 use lib.ListN.{length, getD, set, length-set}
 use Rattle.laws.proofs.Bools.{never}
 use Rattle.laws.proofs.Lists.{length-mapFirst}
-use Rattle.frame.specs.Fades.{voiceAt, advanced}
+use Rattle.frame.specs.Fades.{voiceAt, advancedBy, advanced}
 use Rattle.frame.specs.Frames.{enveloped, sampled, sampledCount, monoFrame, monoFrameBy, dutyFrame, dutyFrameBy, stereoFrame, stereoFrameBy}
 use Rattle.frame.proofs.Voices.{framed-at}
 use Rattle.mixer.specs.Mixers.{voiceRead, panned, pannedAt, withMasterGain}
@@ -36,7 +36,7 @@ unfolding tickedVoice audible activeSource steppedVoice steppedSource
 framed-source v b e a = rw (e, a)
 
 still-advanced : (m : Mixer) → m .«crossfade_active» ≡ false → advanced m ≡ m
-unfolding advanced
+unfolding advancedBy
 still-advanced m e = rw e
 
 ready-framed : (m : Mixer) (k : ℕ) (b : PolyBlepVoice) → 0 < k → Ready m b → b .active ≡ true → Ready (sampled k (enveloped m)) (B.steppedVoice b)

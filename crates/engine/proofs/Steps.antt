@@ -14,7 +14,8 @@ use Rattle.mixer.specs.Mixers.{toldOutcome}
 use Rattle.start.specs.declared.Request.{Request}
 use Rattle.steps.specs.Steps.{Frame, mono, duty, stereo, Call, play, tone, polyBlep, bank, pan, masterGain, stop, fade, look, calledMixer, ByRule}
 use Rattle.steps.proofs.Calls.{same}
-use Rattle.steps.proofs.Frames.{mono-fade, duty-fade, stereo-fade}
+use Rattle.frame.proofs.Fades.{mono-fade, stereo-fade}
+use Rattle.steps.proofs.Frames.{duty-fade}
 use Rattle.steps.proofs.Steps as S
 use Rattle.engine.specs.Engines.{ValidEngine, boxed}
 use Rattle.engine.specs.Requests.{player, playedAll}
@@ -46,11 +47,11 @@ fade-takes e bytes id ms adsr a = S.fade-takes stepper by-rule e bytes id ms ads
 
 -- of a fade under way, what is left of it
 pub fade-lasts : (e : AudioEngine) (ss : List (Step Frame Call)) → ValidEngine e → unbroken box ss e ≡ true → Lasts box (framesLeft (e .state)) e ss
-fade-lasts e ss h u = S.fade-lasts stepper by-rule e ss (h .inside) u
+fade-lasts e ss h u = S.fade-lasts box (S.lawful stepper by-rule) e ss (h .inside) u
 
 -- ---- a buffer call is so many frames (`buffers/Buffers` Fills), a list of requests so many plays (`Requests` playedAll)
 pub frame-run : (f : Frame) (n : ℕ) (e : AudioEngine) → afterAll box (replicate n (frame f)) e ≡ boxed (after (frameStep f) n (e .state))
-frame-run f n e = S.frame-run stepper boxed f (frameStep f) (λ m. refl) n (e .state)
+frame-run f n e = S.frame-run box boxed f (frameStep f) (λ m. refl) n (e .state)
 
 pub play-run : (bytes : List ℕ) (rs : List Request) (e : AudioEngine) → afterAll box (map (λ r. call (play bytes r)) rs) e ≡ playedAll e bytes rs
-play-run bytes rs e = S.play-run stepper player (λ bytes r e. refl) bytes rs e
+play-run bytes rs e = S.play-run box player play (λ bytes r e. refl) bytes rs e

@@ -50,4 +50,4 @@ box = S.box stepper
 
 -- what document 02 promises of a fade that e accepts
 abbrev pub FadeTakes : AudioEngine → List ℕ → ℕ → ℕ → AdsrSpec → Type 0
-FadeTakes e bytes id ms adsr = S.FadeTakes stepper e bytes id ms adsr
+FadeTakes e bytes id ms adsr = S.FadeTakes box e (fading e bytes id ms adsr .engine) ms

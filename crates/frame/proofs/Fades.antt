@@ -4,21 +4,40 @@ use native.Mathlib.Omega.{arith}
 use mathlib.Core.Path.{_≡_, refl, ap}
 use mathlib.Core.Bool.{Bool, true, false, cond}
 use mathlib.Core.List.{List, [], _∷_, map}
+use lib.Dec.{eqb}
 use lib.ListN.{length}
 use Rattle.laws.specs.Lists.{only}
+use Rattle.marks.specs.declared.Marks.{Marks}
 use Rattle.mixer.specs.Mixers.{Valid}
 use Rattle.mixer.specs.declared.Mixer.{Mixer}
-use Rattle.frame.specs.Fades.{advanced}
-use Rattle.frame.specs.Frames.{enveloped, sampled, monoFrame, monoFrameBy, stereoFrame, stereoFrameBy}
+use Rattle.frame.specs.Fades.{fadeEndedWith, fadeEndedBy, fadeAt, nextT, advancedBy, advanced}
+use Rattle.frame.specs.Frames.{enveloped, sampled, oldMarks, monoFrame, monoFrameBy, stereoFrame, stereoFrameBy}
 use Rattle.frame.specs.Lasting.{framesLeft, SameFade, Box, Step, frame, Lawful, afterAll, framesIn, unbroken}
 use Rattle.frame.specs.Runs.{framesAfter}
 use Rattle.frame.proofs.Lasting.{valid-moves, left-most, lasts}
 
+-- the advance does the same to a fade's fields, whichever call began it
+advance-same : (on : Bool) (m : Mixer) → SameFade (advancedBy on m) (advanced m)
+unfolding advancedBy fadeEndedWith fadeAt
+advance-same on m = go (m .«crossfade_active») (eqb (nextT m) 255)
+  where
+    go : (a e : Bool) → SameFade (cond a (cond e (fadeEndedBy on m) (fadeAt m (nextT m))) m) (cond a (cond e (fadeEndedBy false m) (fadeAt m (nextT m))) m)
+    go true true = record { active = refl; t = refl; step = refl }
+    go true false = record { active = refl; t = refl; step = refl }
+    go false e = record { active = refl; t = refl; step = refl }
+
 -- a frame of either kind advances the fade and does nothing else to it
-pub frame-fade : (k : Bool) (m : Mixer) → SameFade (cond k (stereoFrame m .mixer) (monoFrame m .mixer)) (advanced m)
-unfolding monoFrameBy stereoFrameBy sampled enveloped
-frame-fade true m = record { active = refl; t = refl; step = refl }
-frame-fade false m = record { active = refl; t = refl; step = refl }
+pub mono-fade : (k : Marks) (m : Mixer) → SameFade (monoFrameBy k m .mixer) (advanced m)
+unfolding monoFrameBy sampled enveloped
+mono-fade k m = let s = advance-same (k .«sounds_on») m in record { active = s .active; t = s .t; step = s .step }
+
+pub stereo-fade : (k : Marks) (m : Mixer) → SameFade (stereoFrameBy k m .mixer) (advanced m)
+unfolding stereoFrameBy sampled enveloped
+stereo-fade k m = let s = advance-same (k .«sounds_on») m in record { active = s .active; t = s .t; step = s .step }
+
+frame-fade : (k : Bool) (m : Mixer) → SameFade (cond k (stereoFrame m .mixer) (monoFrame m .mixer)) (advanced m)
+frame-fade true m = stereo-fade oldMarks m
+frame-fade false m = mono-fade oldMarks m
 
 -- frames alone, as a box: true for stereo
 frames : Box Mixer Bool (Unit {0})

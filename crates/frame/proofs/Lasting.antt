@@ -13,7 +13,7 @@ use Rattle.laws.specs.Lists.{only}
 use Rattle.laws.proofs.Bools.{never}
 use Rattle.mixer.specs.Mixers.{Valid}
 use Rattle.mixer.specs.declared.Mixer.{Mixer}
-use Rattle.frame.specs.Fades.{fadeEnded, fadeAt, nextT, advanced}
+use Rattle.frame.specs.Fades.{fadeEndedWith, fadeEndedBy, fadeAt, nextT, advancedBy, advanced}
 use Rattle.frame.specs.Lasting.{framesLeft, SameFade, Box, Step, frame, call, Lawful, afterAll, framesIn, unbroken, Lasts}
 
 -- ---- a ÷ s rounded up
@@ -44,17 +44,18 @@ pub valid-moves : {m : Mixer} → Valid m → Moves m
 valid-moves h a = h .fade a .1
 
 data Next (m : Mixer) : Type 0 where
-  none : m .«crossfade_active» ≡ false → framesLeft m ≡ 0 → advanced m ≡ m → Next m
+  none : m .«crossfade_active» ≡ false → framesLeft m ≡ 0 → ((on : Bool) → advancedBy on m ≡ m) → Next m
   moves : m .«crossfade_active» ≡ true → framesLeft m ≡ suc (framesLeft (fadeAt m (nextT m))) → 1 ≤ framesLeft (fadeAt m (nextT m))
-      → advanced m ≡ fadeAt m (nextT m) → Next m
-  ends : m .«crossfade_active» ≡ true → framesLeft m ≡ 1 → framesLeft (fadeEnded m) ≡ 0 → advanced m ≡ fadeEnded m → Next m
+      → ((on : Bool) → advancedBy on m ≡ fadeAt m (nextT m)) → Next m
+  ends : m .«crossfade_active» ≡ true → framesLeft m ≡ 1 → framesLeft (fadeEndedBy false m) ≡ 0 → ((on : Bool) → advancedBy on m ≡ fadeEndedBy on m)
+      → Next m
 
 next : (m : Mixer) → Moves m → Next m
-unfolding advanced framesLeft fadeAt fadeEnded
+unfolding advancedBy framesLeft fadeAt fadeEndedWith
 next m k = by-active (m .«crossfade_active») refl
   where
     by-active : (a : Bool) → m .«crossfade_active» ≡ a → Next m
-    by-active false a = none a (rw a) (rw a)
+    by-active false a = none a (rw a) (λ on. rw a)
     by-active true a = by-end (eqb (nextT m) 255) refl
       where
         by-end : (e : Bool) → eqb (nextT m) 255 ≡ e → Next m
@@ -62,32 +63,32 @@ next m k = by-active (m .«crossfade_active») refl
             let s = k a in
             let n = eqb-true (nextT m) 255 e in
             let u = up-once (255 - m .«crossfade_t_q8») (m .«crossfade_step_q8») s (omega arith) in
-            ends a (rw a (omega arith)) refl (rw (a, e))
+            ends a (rw a (omega arith)) refl (λ on. rw (a, e))
         by-end false e =
             let s = k a in
             let n = eqb-false (nextT m) 255 e in
             let z : 255 - m .«crossfade_t_q8» - m .«crossfade_step_q8» ≡ 255 - nextT m = omega arith in
             let u = rw z at (up-more (255 - m .«crossfade_t_q8») (m .«crossfade_step_q8») s (omega arith)) in
             let v = up-some (255 - nextT m) (m .«crossfade_step_q8») s (omega arith) in
-            moves a (rw a (omega arith)) (rw a (omega arith)) (rw (a, e))
+            moves a (rw a (omega arith)) (rw a (omega arith)) (λ on. rw (a, e))
 
 -- the frame takes one off what is left
 advance-left : (m : Mixer) → Moves m → framesLeft (advanced m) ≡ framesLeft m - 1
 advance-left m k = by-next (next m k)
   where
     by-next : Next m → framesLeft (advanced m) ≡ framesLeft m - 1
-    by-next (none a l e) = rw e (omega arith)
-    by-next (moves a l g e) = rw e (omega arith)
-    by-next (ends a l z e) = rw e (omega arith)
+    by-next (none a l e) = rw (e false) (omega arith)
+    by-next (moves a l g e) = rw (e false) (omega arith)
+    by-next (ends a l z e) = rw (e false) (omega arith)
 
 advance-moves : (m : Mixer) → Moves m → Moves (advanced m)
-unfolding fadeAt fadeEnded
+unfolding fadeAt fadeEndedWith
 advance-moves m k = by-next (next m k)
   where
     by-next : Next m → Moves (advanced m)
-    by-next (none a l e) = rw e k
-    by-next (moves a l g e) = rw e k
-    by-next (ends a l z e) = rw e (λ b. never b)
+    by-next (none a l e) = rw (e false) k
+    by-next (moves a l g e) = rw (e false) k
+    by-next (ends a l z e) = rw (e false) (λ b. never b)
 
 -- what is left depends on the fade's fields alone
 pub same-left : {a b : Mixer} → SameFade a b → framesLeft a ≡ framesLeft b
@@ -157,25 +158,25 @@ module _ {State Frame Call : Type 0} (b : Box State Frame Call) (w : Lawful b) w
             running = λ h. absurd (omega (arith, r .left));
             over = λ h. a;
             left = r .left ∙ rw c;
-            moves = λ h. absurd (omega (arith, r .left));
-            ends = λ h. absurd (omega (arith, r .left));
-            rests = λ h. g;
+            moves = λ on h. absurd (omega (arith, r .left));
+            ends = λ on h. absurd (omega (arith, r .left));
+            rests = λ on h. g on;
           }
       by-next r (moves a l o g) =
           record {
             running = λ h. a;
             over = λ h. absurd (omega (arith, r .left));
             left = r .left ∙ rw c;
-            moves = λ h. g;
-            ends = λ h. absurd (omega (arith, r .left));
-            rests = λ h. absurd (omega (arith, r .left));
+            moves = λ on h. g on;
+            ends = λ on h. absurd (omega (arith, r .left));
+            rests = λ on h. absurd (omega (arith, r .left));
           }
       by-next r (ends a l z g) =
           record {
             running = λ h. a;
             over = λ h. absurd (omega (arith, r .left));
             left = r .left ∙ rw c;
-            moves = λ h. absurd (omega (arith, r .left));
-            ends = λ h. g;
-            rests = λ h. absurd (omega (arith, r .left));
+            moves = λ on h. absurd (omega (arith, r .left));
+            ends = λ on h. g on;
+            rests = λ on h. absurd (omega (arith, r .left));
           }

@@ -14,15 +14,17 @@ use Rattle.mixer.specs.declared.Mixer.{Mixer}
 use Rattle.output.specs.Duty.{ValidMapper}
 use Rattle.output.specs.declared.PwmMapper.{PwmMapper}
 use Rattle.mixer.proofs.Laws.{valid-voice}
+use Rattle.envelope.specs.Adsrs as A
+use Rattle.envelope.specs.declared.Adsr.{Adsr}
 use Rattle.voice.specs.Voices as S
 use Rattle.voice.specs.declared.Voice.{Voice}
 use Rattle.voice.proofs.Laws as L
-use Rattle.frame.specs.Fades.{takenOver, voiceAt, fadeEnded, fadeAt, nextT, advanced, marksEnded, marksAdvanced}
+use Rattle.frame.specs.Fades.{takenOver, voiceAt, fadeEndedWith, envelopeAfter, fadeEndedBy, fadeAt, nextT, advancedBy, advanced, marksEnded, marksAdvanced}
 use Rattle.frame.specs.Presents.{monoNext, dutyNext, stereoNext}
 use Rattle.frame.specs.Runs.{monoStep, dutyStep, stereoStep}
 use Rattle.marks.specs.Marks.{lifted}
 use Rattle.marks.specs.declared.Marks.{Marks}
-use Rattle.frame.specs.Frames.{enveloped, sampled, sampledCount, oldMarks, monoGiven, withMapper, monoFrame, monoFrameBy, stereoFrame, stereoFrameBy}
+use Rattle.frame.specs.Frames.{enveloped, sampled, sampledCount, oldMarks, withMapper, monoFrameBy, stereoFrameBy}
 
 -- the first k voices replaced by what f makes of them
 pub valid-mapped : {m : Mixer} (f : Voice → Voice) → ((v : Voice) → S.Valid v → S.Valid (f v)) → (k : ℕ) → k ≤ m .n → Valid m → Valid (withVoices m (mapFirst f k (m .voices)))
@@ -40,24 +42,29 @@ valid-mapped {m} f keeps k l h =
       fade = h .fade;
     }
 
-pub valid-taken : (old new : Voice) → S.Valid old → S.Valid new → S.Valid (takenOver old new)
+valid-taken : {a : Adsr} (old new : Voice) → A.Valid a → S.Valid old → S.Valid new → S.Valid (takenOver a old new)
 unfolding takenOver
-valid-taken old new h k = record { rate = h .rate; source = k .source; adsr = L.valid-stopped h .adsr }
+valid-taken old new e h k = record { rate = h .rate; source = k .source; adsr = e }
 
-pub valid-ended : {m : Mixer} → Valid m → 2 ≤ m .n → Valid (fadeEnded m)
-unfolding fadeEnded
-valid-ended {m} h k =
+valid-after : (on : Bool) {old new : Voice} → S.Valid old → S.Valid new → A.Valid (envelopeAfter on old new)
+unfolding envelopeAfter
+valid-after true a b = b .adsr
+valid-after false a b = L.valid-stopped a .adsr
+
+pub valid-ended : (on : Bool) {m : Mixer} → Valid m → 2 ≤ m .n → Valid (fadeEndedBy on m)
+unfolding fadeEndedWith
+valid-ended on {m} h k =
     let d = S.silentVoice 0 in
     let a = valid-voice 0 d h (omega arith) in
     let b = valid-voice 1 d h (omega arith) in
-    let first = takenOver (voiceAt m 0) (voiceAt m 1) in
+    let first = takenOver (envelopeAfter on (voiceAt m 0) (voiceAt m 1)) (voiceAt m 0) (voiceAt m 1) in
     let vs = set (m .voices) 0 first in
     record {
       few = h .few;
       full = rw (length-set, length-set, h .full);
       each =
           all-set S.Valid vs 1 (S.stoppedVoice (voiceAt m 1))
-          (all-set S.Valid (m .voices) 0 first (h .each) (valid-taken (voiceAt m 0) (voiceAt m 1) a b))
+          (all-set S.Valid (m .voices) 0 first (h .each) (valid-taken (voiceAt m 0) (voiceAt m 1) (valid-after on a b) a b))
           (L.valid-stopped b);
       rest =
           rw (
@@ -89,15 +96,15 @@ valid-at t h =
       fade = h .fade;
     }
 
-pub valid-advanced : {m : Mixer} → Valid m → Valid (advanced m)
-unfolding advanced
-valid-advanced {m} h = by-active (m .«crossfade_active») refl
+pub valid-advanced : (on : Bool) {m : Mixer} → Valid m → Valid (advancedBy on m)
+unfolding advancedBy
+valid-advanced on {m} h = by-active (m .«crossfade_active») refl
   where
-    by-end : m .«crossfade_active» ≡ true → (e : Bool) → Valid (cond e (fadeEnded m) (fadeAt m (nextT m)))
-    by-end a true = valid-ended h (h .fade a .0)
+    by-end : m .«crossfade_active» ≡ true → (e : Bool) → Valid (cond e (fadeEndedBy on m) (fadeAt m (nextT m)))
+    by-end a true = valid-ended on h (h .fade a .0)
     by-end a false = valid-at (nextT m) h
 
-    by-active : (a : Bool) → m .«crossfade_active» ≡ a → Valid (cond a (cond (eqb (nextT m) 255) (fadeEnded m) (fadeAt m (nextT m))) m)
+    by-active : (a : Bool) → m .«crossfade_active» ≡ a → Valid (cond a (cond (eqb (nextT m) 255) (fadeEndedBy on m) (fadeAt m (nextT m))) m)
     by-active true a = by-end a (eqb (nextT m) 255)
     by-active false a = h
 
@@ -117,13 +124,12 @@ sampled-there {m} h = by-active (m .«crossfade_active») refl
     by-active true a = h .fade a .0
     by-active false a = omega arith
 
-pub valid-given : {m : Mixer} → Valid m → Valid (monoGiven oldMarks m .mixer)
-valid-given {m} h = valid-sampled (sampledCount m) (sampled-there h) h
-
 -- both frames
-pub valid-mono : {m : Mixer} → Valid m → Valid (monoFrame m .mixer)
+pub valid-mono : (k : Marks) {m : Mixer} → Valid m → Valid (monoFrameBy k m .mixer)
 unfolding monoFrameBy
-valid-mono h = valid-given (valid-enveloped (valid-advanced h))
+valid-mono k {m} h =
+    let b = valid-enveloped (valid-advanced (k .«sounds_on») h) in
+    valid-sampled (sampledCount (enveloped (advancedBy (k .«sounds_on») m))) (sampled-there b) b
 
 -- a valid mapper put in
 pub valid-mapper : {m : Mixer} (p : PwmMapper) → ValidMapper p → Valid m → Valid (withMapper m p)
@@ -141,9 +147,11 @@ valid-mapper p v h =
       fade = h .fade;
     }
 
-pub valid-stereo : {m : Mixer} → Valid m → Valid (stereoFrame m .mixer)
+pub valid-stereo : (k : Marks) {m : Mixer} → Valid m → Valid (stereoFrameBy k m .mixer)
 unfolding stereoFrameBy
-valid-stereo {m} h = let b = valid-enveloped (valid-advanced h) in valid-sampled (enveloped (advanced m) .n) (omega arith) b
+valid-stereo k {m} h =
+    let b = valid-enveloped (valid-advanced (k .«sounds_on») h) in
+    valid-sampled (enveloped (advancedBy (k .«sounds_on») m) .n) (omega arith) b
 
 -- ---- marks
 -- document 01's stay as they are
@@ -156,14 +164,14 @@ marks-old m = go (m .«crossfade_active») (eqb (nextT m) 255)
     go true false = refl
     go false e = refl
 
--- no frame's state hangs on them
-pub mono-any : (k : Marks) (m : Mixer) → monoFrameBy k m .mixer ≡ monoStep m
+-- no frame's state hangs on what stands beside the voices, only on the fade's advance
+pub mono-any : (k : Marks) (m : Mixer) → advancedBy (k .«sounds_on») m ≡ advanced m → monoFrameBy k m .mixer ≡ monoStep m
 unfolding monoFrameBy
-mono-any k m = refl
+mono-any k m e = rw e
 
-pub stereo-any : (k : Marks) (m : Mixer) → stereoFrameBy k m .mixer ≡ stereoStep m
+pub stereo-any : (k : Marks) (m : Mixer) → advancedBy (k .«sounds_on») m ≡ advanced m → stereoFrameBy k m .mixer ≡ stereoStep m
 unfolding stereoFrameBy
-stereo-any k m = refl
+stereo-any k m e = rw e
 
 -- ---- the frames of a lifted state are document 01's
 pub mono-lifted : (m : Mixer) → monoNext (lifted m) ≡ lifted (monoStep m)

@@ -17,8 +17,8 @@ use Rattle.voice.specs.Voices.{silentVoice, audible, tickedVoice, sampleBy, pai
 use Rattle.voice.specs.declared.source.VoiceSource.the-variants as S
 use Rattle.voice.specs.declared.Voice.{Voice}
 use Rattle.voice.proofs.Laws.{ticked-silent, sample-idle, pair-idle}
-use Rattle.frame.specs.Fades.{voiceAt, advanced, marksAdvanced}
-use Rattle.frame.specs.Frames.{enveloped, sampled, crossed, averaged, samplesOf, sampledCount, monoMix, monoFrameBy, dutyFrameBy, stereoFrameBy}
+use Rattle.frame.specs.Fades.{voiceAt, advancedBy, marksAdvanced}
+use Rattle.frame.specs.Frames.{enveloped, sampled, crossed, averaged, samplesOf, sampledCount, monoMix, monoGiven, monoFrameBy, dutyFrameBy, stereoGiven, stereoFrameBy}
 use Rattle.frame.specs.Places.{mapAt}
 use Rattle.frame.specs.Presents.{monoNext, dutyNext, stereoNext, pcmOf, dutyOf, leftSide, rightSide}
 use Rattle.frame.specs.declared.MonoFrame.{MonoFrame}
@@ -39,7 +39,7 @@ mapAt-agree f g d i (x ∷ l) h =
 
 -- ---- the voices' samples, mono or on both sides: an idle voice's is the same by any rule
 module _ {B : Type 0} (f : Bool → Voice → B) (idle : (a b : Bool) (v : Voice) → v .source ≡ S.Idle → f a v ≡ f b v) where
-  ticked-any : (a b : Bool) (v : Voice) → (audible v ≡ true → a ≡ b) → f a (tickedVoice v) ≡ f b (tickedVoice v)
+  pub ticked-any : (a b : Bool) (v : Voice) → (audible v ≡ true → a ≡ b) → f a (tickedVoice v) ≡ f b (tickedVoice v)
   ticked-any a b v h = go (audible v) refl
     where
       go : (t : Bool) → audible v ≡ t → f a (tickedVoice v) ≡ f b (tickedVoice v)
@@ -62,10 +62,10 @@ module _ {B : Type 0} (f : Bool → Voice → B) (idle : (a b : Bool) (v : Voice
         mapAt-agree (λ i v. f (ruleAt k i) v) (λ i v. f (ruleAt l i) v) (silentVoice 0) 0 (M.voicesOf b)
         (λ j c. rw (zero-add, getD-take (b .n) (b .voices) j (silentVoice 0) (omega arith)) (one-same j (omega arith)))
 
-sample-any : (a b : Bool) (v : Voice) → v .source ≡ S.Idle → sampleBy a v ≡ sampleBy b v
+pub sample-any : (a b : Bool) (v : Voice) → v .source ≡ S.Idle → sampleBy a v ≡ sampleBy b v
 sample-any a b v e = sample-idle a v e ∙ sym (sample-idle b v e)
 
-pair-any : (a b : Bool) (v : Voice) → v .source ≡ S.Idle → pairBy a v ≡ pairBy b v
+pub pair-any : (a b : Bool) (v : Voice) → v .source ≡ S.Idle → pairBy a v ≡ pairBy b v
 pair-any a b v e = pair-idle a v e ∙ sym (pair-idle b v e)
 
 mix-same : {m : Mixer} {k l : Marks} → Sized m → length (k .voices) ≡ 16 → Alike (m .voices) k l → monoMix k (enveloped m) ≡ monoMix l (enveloped m)
@@ -86,12 +86,20 @@ mix-same {m} {k} {l} h full s = go (m .«crossfade_active») refl
 
 -- ---- alike marks give one frame
 module _ {m : Mixer} {k l : Marks} (h : Sized m) (full : length (k .voices) ≡ 16) (s : Alike (m .voices) k l) where
-  after : Alike (advanced m .voices) (marksAdvanced m k) (marksAdvanced m l)
-  after = advanced-alike m k (h .full) full l s
+  abbrev next : Mixer
+  next = advancedBy (l .«sounds_on») m
+
+  after : Alike (next .voices) (marksAdvanced m k) (marksAdvanced m l)
+  after = advanced-alike (l .«sounds_on») m k (h .full) full l s
+
+  next-sized : Sized next
+  next-sized = sized-advanced (l .«sounds_on») h
 
   mono-same : monoFrameBy k m ≡ monoFrameBy l m
   unfolding monoFrameBy
-  mono-same = rw (mix-same (sized-advanced h) (marks-full m k ∙ full) after, after .master)
+  mono-same =
+      ap (λ (on : Bool). monoGiven (marksAdvanced m k) (enveloped (advancedBy on m))) (s .on)
+      ∙ rw (mix-same next-sized (marks-full m k ∙ full) after, after .master)
 
   duty-same : dutyFrameBy k m ≡ dutyFrameBy l m
   unfolding dutyFrameBy
@@ -99,32 +107,36 @@ module _ {m : Mixer} {k l : Marks} (h : Sized m) (full : length (k .voices) ≡ 
 
   stereo-same : stereoFrameBy k m ≡ stereoFrameBy l m
   unfolding stereoFrameBy
-  stereo-same = rw (all-same pairBy pair-any (sized-advanced h) (marks-full m k ∙ full) after, after .master)
+  stereo-same =
+      ap (λ (on : Bool). stereoGiven (marksAdvanced m k) (enveloped (advancedBy on m))) (s .on)
+      ∙ rw (all-same pairBy pair-any next-sized (marks-full m k ∙ full) after, after .master)
 
   -- and settle to the same after it
-  after-settled : (c : ℕ) (f g : Mixer) → c ≤ advanced m .n → f ≡ g → g .voices ≡ sampled c (enveloped (advanced m)) .voices
+  after-settled : (c : ℕ) (f g : Mixer) → c ≤ next .n → f ≡ g → g .voices ≡ sampled c (enveloped next) .voices
       → settled (beside f (marksAdvanced m k)) ≡ settled (beside g (marksAdvanced m l))
   after-settled c f g n e v =
       rw e
-      (alike-settled g (ap length v ∙ framed-full c (advanced m) ∙ sized-advanced h .full) (marks-full m k ∙ full)
-      (rw v (framed-alike c (advanced m) n after)))
+      (alike-settled g (ap length v ∙ framed-full c next ∙ next-sized .full) (marks-full m k ∙ full)
+      (rw v (framed-alike c next n after)))
 
-  count : sampledCount (enveloped (advanced m)) ≤ advanced m .n
+  count : sampledCount (enveloped next) ≤ next .n
   unfolding enveloped
-  count = sampled-few (sized-enveloped (sized-advanced h))
+  count = sampled-few (sized-enveloped next-sized)
 
   mono-next : settled (monoNext (beside m k)) ≡ settled (monoNext (beside m l))
   unfolding monoFrameBy
-  mono-next = after-settled (sampledCount (enveloped (advanced m))) (monoFrameBy k m .mixer) (monoFrameBy l m .mixer) count refl refl
+  mono-next =
+      after-settled (sampledCount (enveloped next)) (monoFrameBy k m .mixer) (monoFrameBy l m .mixer) count (ap (λ (f : MonoFrame). f .mixer) mono-same) refl
 
   duty-next : settled (dutyNext (beside m k)) ≡ settled (dutyNext (beside m l))
   unfolding dutyFrameBy monoFrameBy
   duty-next =
-      after-settled (sampledCount (enveloped (advanced m))) (dutyFrameBy k m .mixer) (dutyFrameBy l m .mixer) count (ap (λ (f : DutyFrame). f .mixer) duty-same) refl
+      after-settled (sampledCount (enveloped next)) (dutyFrameBy k m .mixer) (dutyFrameBy l m .mixer) count (ap (λ (f : DutyFrame). f .mixer) duty-same) refl
 
   stereo-next : settled (stereoNext (beside m k)) ≡ settled (stereoNext (beside m l))
   unfolding stereoFrameBy enveloped
-  stereo-next = after-settled (advanced m .n) (stereoFrameBy k m .mixer) (stereoFrameBy l m .mixer) (omega arith) refl refl
+  stereo-next =
+      after-settled (next .n) (stereoFrameBy k m .mixer) (stereoFrameBy l m .mixer) (omega arith) (ap (λ (f : StereoFrame). f .mixer) stereo-same) refl
 
 -- ---- the frames of a state
 settled-full : (p : Present) → Ready p → length (settled p .marks .voices) ≡ 16

@@ -9,8 +9,6 @@ use lib.Dec.{eqb}
 use lib.IntN.{ℤ, pos, _+ℤ_}
 use lib.ListN.{length, getD, take, set}
 use lib.Seq.{take-set-lt, getD-take, length-take-le}
-use Rattle.envelope.proofs.Laws.{idle-inactive}
-use Rattle.envelope.specs.Adsrs as A
 use Rattle.fixed.specs.declared.Given.{Given}
 use Rattle.fixed.specs.declared.Given.the-variants as G
 use Rattle.laws.specs.Lists.{All, mapFirst}
@@ -18,15 +16,15 @@ use Rattle.frame.specs.Places.{mapAt}
 use Rattle.laws.proofs.Lists.{all-set, all-get, all-map, all-imp, all-take, take-mapFirst, mapFirst-same}
 use Rattle.mixer.specs.Mixers.{Valid, voicesOf, withVoices}
 use Rattle.mixer.specs.declared.Mixer.{Mixer}
-use Rattle.voice.specs.Sources.{activeSource}
 use Rattle.voice.specs.Voices.{silentVoice, stoppedVoice, audible, tickedVoice, steppedVoice, sampleBy, pairBy}
 use Rattle.voice.specs.declared.source.VoiceSource.the-variants as S
 use Rattle.voice.specs.declared.StereoGiven.{StereoGiven}
 use Rattle.voice.specs.declared.StereoGiven.the-variants as P
+use Rattle.frame.proofs.Ends.{stopped-unheard, after-inactive, taken-unheard}
 use Rattle.frame.proofs.Laws.{valid-advanced, valid-enveloped, sampled-there}
 use Rattle.voice.specs.declared.Voice.{Voice}
-use Rattle.voice.proofs.Laws.{or-false, ticked-silent, stepped-idle, sample-idle, pair-idle}
-use Rattle.frame.specs.Fades.{takenOver, voiceAt, fadeEnded, fadeAt, nextT, advanced, marksAdvanced}
+use Rattle.voice.proofs.Laws.{ticked-silent, stepped-idle, sample-idle, pair-idle}
+use Rattle.frame.specs.Fades.{takenOver, voiceAt, fadeEndedWith, envelopeAfter, fadeEndedBy, fadeAt, nextT, advancedBy, marksAdvanced}
 use Rattle.marks.specs.Marks.{ruleAt}
 use Rattle.marks.specs.declared.Marks.{Marks}
 use Rattle.frame.specs.Frames.{enveloped, sampled, leveled, total, givenCount, averaged, crossed, samplesOf, sampledCount, monoMix, monoFrame, monoFrameBy, leftOf, rightOf, sideTotal, stereoFrame, stereoFrameBy}
@@ -42,38 +40,30 @@ Silent m = All Inaudible (voicesOf m)
 abbrev Idle : Voice → Type 0
 Idle v = (audible v ≡ false) × (v .source ≡ S.Idle)
 
-stopped-inaudible : (v : Voice) → Inaudible (stoppedVoice v)
-unfolding stoppedVoice audible activeSource
-stopped-inaudible v = idle-inactive A.clickSpec (v .«sample_rate_hz»)
-
-taken-inaudible : (old new : Voice) → Inaudible new → Inaudible (takenOver old new)
-unfolding takenOver stoppedVoice audible
-taken-inaudible old new h =
-    rw (or-false (activeSource (new .source)) (A.active (new .adsr)) h .0) (idle-inactive A.clickSpec (old .«sample_rate_hz»))
-
-advance-silent : (m : Mixer) → Valid m → Silent m → Silent (advanced m)
-unfolding advanced fadeEnded fadeAt
-advance-silent m h s = by-active (m .«crossfade_active») refl
+advance-silent : (on : Bool) (m : Mixer) → Valid m → Silent m → Silent (advancedBy on m)
+unfolding advancedBy fadeEndedWith fadeAt
+advance-silent on m h s = by-active (m .«crossfade_active») refl
   where
-    ended : 2 ≤ m .n → All Inaudible (take (m .n) (set (set (m .voices) 0 (takenOver (voiceAt m 0) (voiceAt m 1))) 1 (stoppedVoice (voiceAt m 1))))
+    first : Voice
+    first = takenOver (envelopeAfter on (voiceAt m 0) (voiceAt m 1)) (voiceAt m 0) (voiceAt m 1)
+
+    ended : 2 ≤ m .n → All Inaudible (take (m .n) (set (set (m .voices) 0 first) 1 (stoppedVoice (voiceAt m 1))))
     ended k =
         let d = silentVoice 0 in
         let l : length (voicesOf m) ≡ m .n = length-take-le (m .n) (m .voices) (omega (arith, h .few, h .full)) in
         let one : Inaudible (voiceAt m 1) = rw (← getD-take (m .n) (m .voices) 1 d (omega arith)) (all-get Inaudible (voicesOf m) 1 d s (omega arith)) in
-        let zero : Inaudible (takenOver (voiceAt m 0) (voiceAt m 1)) = taken-inaudible (voiceAt m 0) (voiceAt m 1) one in
+        let zero : Inaudible first = taken-unheard (envelopeAfter on (voiceAt m 0) (voiceAt m 1)) (voiceAt m 0) (voiceAt m 1) (after-inactive on (voiceAt m 0) (voiceAt m 1) one) one in
         rw (
-          take-set-lt (m .n) (set (m .voices) 0 (takenOver (voiceAt m 0) (voiceAt m 1))) 1 (stoppedVoice (voiceAt m 1)) (omega arith),
-          take-set-lt (m .n) (m .voices) 0 (takenOver (voiceAt m 0) (voiceAt m 1)) (omega arith),
+          take-set-lt (m .n) (set (m .voices) 0 first) 1 (stoppedVoice (voiceAt m 1)) (omega arith),
+          take-set-lt (m .n) (m .voices) 0 first (omega arith),
         )
-        (all-set Inaudible (set (voicesOf m) 0 (takenOver (voiceAt m 0) (voiceAt m 1))) 1 (stoppedVoice (voiceAt m 1))
-        (all-set Inaudible (voicesOf m) 0 (takenOver (voiceAt m 0) (voiceAt m 1)) s zero)
-        (stopped-inaudible (voiceAt m 1)))
+        (all-set Inaudible (set (voicesOf m) 0 first) 1 (stoppedVoice (voiceAt m 1)) (all-set Inaudible (voicesOf m) 0 first s zero) (stopped-unheard (voiceAt m 1)))
 
-    by-end : m .«crossfade_active» ≡ true → (e : Bool) → Silent (cond e (fadeEnded m) (fadeAt m (nextT m)))
+    by-end : m .«crossfade_active» ≡ true → (e : Bool) → Silent (cond e (fadeEndedBy on m) (fadeAt m (nextT m)))
     by-end a true = ended (h .fade a .0)
     by-end a false = s
 
-    by-active : (a : Bool) → m .«crossfade_active» ≡ a → Silent (cond a (cond (eqb (nextT m) 255) (fadeEnded m) (fadeAt m (nextT m))) m)
+    by-active : (a : Bool) → m .«crossfade_active» ≡ a → Silent (cond a (cond (eqb (nextT m) 255) (fadeEndedBy on m) (fadeAt m (nextT m))) m)
     by-active true a = by-end a (eqb (nextT m) 255)
     by-active false a = s
 
@@ -127,10 +117,11 @@ idle-silent m a = all-imp Idle Inaudible (λ v i. i .0) (voicesOf m) a
 pub mono-silent : (r : Marks) (m : Mixer) → Valid m → Silent m → (monoFrameBy r m .pcm ≡ pos 0) × Silent (monoFrameBy r m .mixer)
 unfolding monoFrameBy
 mono-silent r m h s =
-    let v = valid-enveloped (valid-advanced h) in
-    let b = enveloped (advanced m) in
+    let on = r .«sounds_on» in
+    let v = valid-enveloped (valid-advanced on h) in
+    let b = enveloped (advancedBy on m) in
     let q = marksAdvanced m r in
-    let a = envelope-silent (advanced m) (advance-silent m h s) in
+    let a = envelope-silent (advancedBy on m) (advance-silent on m h s) in
     let full : b .n ≤ length (b .voices) = omega (arith, v .few, v .full) in
     (rw (no-mix q b (λ e. v .fade e .0) full a) (silent-level q b), rw (same-sampled (sampledCount b) b (sampled-there v) a) (idle-silent b a))
 
@@ -139,9 +130,10 @@ pub stereo-silent : (r : Marks) (m : Mixer) → Valid m → Silent m
     → (stereoFrameBy r m .left ≡ pos 0) × (stereoFrameBy r m .right ≡ pos 0) × Silent (stereoFrameBy r m .mixer)
 unfolding stereoFrameBy
 stereo-silent r m h s =
-    let b = enveloped (advanced m) in
+    let on = r .«sounds_on» in
+    let b = enveloped (advancedBy on m) in
     let q = marksAdvanced m r in
-    let a = envelope-silent (advanced m) (advance-silent m h s) in (
+    let a = envelope-silent (advancedBy on m) (advance-silent on m h s) in (
       rw (no-side q leftOf refl 0 (voicesOf b) a) (silent-level q b),
       rw (no-side q rightOf refl 0 (voicesOf b) a) (silent-level q b),
       rw (same-sampled (b .n) b (omega arith) a) (idle-silent b a),

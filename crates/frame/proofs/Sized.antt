@@ -12,7 +12,7 @@ use Rattle.marks.specs.Marks as K
 use Rattle.marks.specs.declared.Present.{Present}
 use Rattle.mixer.specs.declared.Mixer.{Mixer}
 use Rattle.voice.specs.Voices.{audible, tickedVoice}
-use Rattle.frame.specs.Fades.{fadeEnded, fadeAt, nextT, advanced, marksAdvanced}
+use Rattle.frame.specs.Fades.{fadeEndedWith, fadeEndedBy, fadeAt, nextT, advancedBy, marksAdvanced}
 use Rattle.frame.specs.Frames.{enveloped, sampled, sampledCount, monoFrameBy, dutyFrameBy, stereoFrameBy}
 use Rattle.frame.specs.Presents.{monoNext, dutyNext, stereoNext}
 use Rattle.frame.proofs.Alike.{marks-full, framed-full, advanced-order, framed-order}
@@ -22,18 +22,18 @@ pub record Sized (m : Mixer) : Type 0 where
   pub full : length (m .voices) ≡ 16
   pub fade : m .«crossfade_active» ≡ true → 2 ≤ m .n
 
-pub sized-advanced : {m : Mixer} → Sized m → Sized (advanced m)
-unfolding advanced fadeEnded fadeAt
-sized-advanced {m} h = by-active (m .«crossfade_active»)
+pub sized-advanced : (on : Bool) {m : Mixer} → Sized m → Sized (advancedBy on m)
+unfolding advancedBy fadeEndedWith fadeAt
+sized-advanced on {m} h = by-active (m .«crossfade_active»)
   where
-    ended : Sized (fadeEnded m)
+    ended : Sized (fadeEndedBy on m)
     ended = record { few = h .few; full = rw (length-set, length-set) (h .full); fade = λ e. never e }
 
-    by-end : (e : Bool) → Sized (cond e (fadeEnded m) (fadeAt m (nextT m)))
+    by-end : (e : Bool) → Sized (cond e (fadeEndedBy on m) (fadeAt m (nextT m)))
     by-end true = ended
     by-end false = record { few = h .few; full = h .full; fade = h .fade }
 
-    by-active : (a : Bool) → Sized (cond a (cond (eqb (nextT m) 255) (fadeEnded m) (fadeAt m (nextT m))) m)
+    by-active : (a : Bool) → Sized (cond a (cond (eqb (nextT m) 255) (fadeEndedBy on m) (fadeAt m (nextT m))) m)
     by-active true = by-end (eqb (nextT m) 255)
     by-active false = h
 
@@ -59,31 +59,37 @@ valid-ready p v =
     record { sized = record { few = v .inside .few; full = v .inside .full; fade = λ a. v .inside .fade a .0 }; marked = v .full; order = v .order }
 
 module _ (p : Present) (h : Ready p) where
-  sampled-sized : (c : ℕ) → Sized (sampled c (enveloped (advanced (p .mixer))))
+  abbrev next : Mixer
+  next = advancedBy (p .marks .«sounds_on») (p .mixer)
+
+  next-sized : Sized next
+  next-sized = sized-advanced (p .marks .«sounds_on») (h .sized)
+
+  sampled-sized : (c : ℕ) → Sized (sampled c (enveloped next))
   unfolding sampled enveloped
   sampled-sized c =
-      let a = sized-advanced (h .sized) in
-      record { few = a .few; full = framed-full c (advanced (p .mixer)) ∙ a .full; fade = a .fade }
+      let a = next-sized in
+      record { few = a .few; full = framed-full c next ∙ a .full; fade = a .fade }
 
-  framed-ordered : (c : ℕ) → c ≤ advanced (p .mixer) .n
-      → K.Ordered (map audible (sampled c (enveloped (advanced (p .mixer))) .voices)) (marksAdvanced (p .mixer) (p .marks) .voices)
+  framed-ordered : (c : ℕ) → c ≤ next .n
+      → K.Ordered (map audible (sampled c (enveloped next) .voices)) (marksAdvanced (p .mixer) (p .marks) .voices)
   framed-ordered c l =
-      framed-order c (advanced (p .mixer)) (marksAdvanced (p .mixer) (p .marks) .voices) l (advanced-order (p .mixer) (p .marks) (h .sized .full) (h .marked) (h .order))
+      framed-order c next (marksAdvanced (p .mixer) (p .marks) .voices) l (advanced-order (p .marks .«sounds_on») (p .mixer) (p .marks) (h .sized .full) (h .marked) (h .order))
 
-  few : sampledCount (enveloped (advanced (p .mixer))) ≤ advanced (p .mixer) .n
+  few : sampledCount (enveloped next) ≤ next .n
   unfolding enveloped
-  few = sampled-few (sized-enveloped (sized-advanced (h .sized)))
+  few = sampled-few (sized-enveloped next-sized)
 
   pub mono-ready : Ready (monoNext p)
   unfolding monoFrameBy
   mono-ready =
-      let c = sampledCount (enveloped (advanced (p .mixer))) in
+      let c = sampledCount (enveloped next) in
       record { sized = sampled-sized c; marked = marks-full (p .mixer) (p .marks) ∙ h .marked; order = framed-ordered c few }
 
   pub duty-ready : Ready (dutyNext p)
   unfolding dutyFrameBy monoFrameBy
   duty-ready =
-      let c = sampledCount (enveloped (advanced (p .mixer))) in
+      let c = sampledCount (enveloped next) in
       let s = sampled-sized c in
       record {
         sized = record { few = s .few; full = s .full; fade = s .fade };
@@ -94,5 +100,5 @@ module _ (p : Present) (h : Ready p) where
   pub stereo-ready : Ready (stereoNext p)
   unfolding stereoFrameBy enveloped
   stereo-ready =
-      let c = advanced (p .mixer) .n in
+      let c = next .n in
       record { sized = sampled-sized c; marked = marks-full (p .mixer) (p .marks) ∙ h .marked; order = framed-ordered c (omega arith) }

@@ -9,13 +9,14 @@ use lib.Dec.{ltb, eqb}
 use lib.ListN.{length, getD}
 use Rattle.laws.specs.Lists.{mapFirst}
 use Rattle.laws.proofs.Lists.{length-mapFirst}
+use Rattle.marks.specs.declared.Marks.{Marks}
 use Rattle.mixer.specs.Mixers.{Valid}
 use Rattle.mixer.specs.declared.Mixer.{Mixer}
 use Rattle.voice.specs.Voices.{silentVoice, tickedVoice, steppedVoice}
 use Rattle.voice.specs.Rests.{framed}
 use Rattle.voice.specs.declared.Voice.{Voice}
-use Rattle.frame.specs.Fades.{voiceAt, fadeEnded, fadeAt, nextT, advanced}
-use Rattle.frame.specs.Frames.{enveloped, sampled, sampledCount, monoFrame, monoFrameBy, stereoFrame, stereoFrameBy}
+use Rattle.frame.specs.Fades.{voiceAt, fadeEndedWith, fadeEndedBy, fadeAt, nextT, advancedBy}
+use Rattle.frame.specs.Frames.{enveloped, sampled, sampledCount, monoFrameBy, stereoFrameBy}
 use Rattle.frame.proofs.Laws.{valid-advanced}
 
 -- ---- the first n of a list
@@ -33,11 +34,11 @@ module _ {A : Type 0} where
   getD-past f (suc n) (suc i) (x ∷ l) d h = getD-past f n i l d (omega arith)
 
 -- ---- one frame
-advanced-n : (m : Mixer) → advanced m .n ≡ m .n
-unfolding advanced fadeEnded fadeAt
-advanced-n m = go (m .«crossfade_active») (eqb (nextT m) 255)
+pub advanced-n : (on : Bool) (m : Mixer) → advancedBy on m .n ≡ m .n
+unfolding advancedBy fadeEndedWith fadeAt
+advanced-n on m = go (m .«crossfade_active») (eqb (nextT m) 255)
   where
-    go : (a e : Bool) → cond a (cond e (fadeEnded m) (fadeAt m (nextT m))) m .n ≡ m .n
+    go : (a e : Bool) → cond a (cond e (fadeEndedBy on m) (fadeAt m (nextT m))) m .n ≡ m .n
     go true true = refl
     go true false = refl
     go false e = refl
@@ -63,17 +64,20 @@ framed-at m k i h l = by-test (ltb i k) refl
     by-test true e = getD-mapFirst step k i ticks d (ltb-true i k e) (rw (length-mapFirst tickedVoice (m .n) (m .voices)) l) ∙ ap step t
     by-test false e = getD-past step k i ticks d (ltb-false i k e) ∙ t
 
-module _ {m : Mixer} (h : Valid m) (i : ℕ) (l : i < m .n) where
-  there : (i < advanced m .n) × (i < length (advanced m .voices))
-  there = let v = valid-advanced h in let e = advanced-n m in (omega arith, omega (arith, v .few, v .full))
+module _ (k : Marks) {m : Mixer} (h : Valid m) (i : ℕ) (l : i < m .n) where
+  abbrev next : Mixer
+  next = advancedBy (k .«sounds_on») m
+
+  there : (i < next .n) × (i < length (next .voices))
+  there = let v = valid-advanced (k .«sounds_on») h in let e = advanced-n (k .«sounds_on») m in (omega arith, omega (arith, v .few, v .full))
 
   -- each voice, after the fade's advance, has a frame; in a fade only voices 0 and 1 are sampled
-  pub mono-framed : voiceAt (monoFrame m .mixer) i ≡ framed (ltb i (sampledCount (advanced m))) (voiceAt (advanced m) i)
+  pub mono-framed : voiceAt (monoFrameBy k m .mixer) i ≡ framed (ltb i (sampledCount next)) (voiceAt next i)
   unfolding monoFrameBy enveloped
-  mono-framed = framed-at (advanced m) (sampledCount (advanced m)) i (there .0) (there .1)
+  mono-framed = framed-at next (sampledCount next) i (there .0) (there .1)
 
-  pub stereo-framed : voiceAt (stereoFrame m .mixer) i ≡ framed true (voiceAt (advanced m) i)
+  pub stereo-framed : voiceAt (stereoFrameBy k m .mixer) i ≡ framed true (voiceAt next i)
   unfolding stereoFrameBy enveloped
   stereo-framed =
-      framed-at (advanced m) (advanced m .n) i (there .0) (there .1)
-      ∙ ap (λ (b : Bool). framed b (voiceAt (advanced m) i)) (lt-ltb i (advanced m .n) (there .0))
+      framed-at next (next .n) i (there .0) (there .1)
+      ∙ ap (λ (b : Bool). framed b (voiceAt next i)) (lt-ltb i (next .n) (there .0))

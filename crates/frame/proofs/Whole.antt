@@ -21,17 +21,17 @@ use Rattle.voice.specs.Sources.{steppedSource}
 use Rattle.voice.specs.Voices.{silentVoice, tickedVoice, sampleBy, pairBy}
 use Rattle.voice.specs.declared.StereoGiven.{StereoGiven}
 use Rattle.voice.specs.declared.Voice.{Voice}
-use Rattle.frame.specs.Fades.{voiceAt, advanced, marksAdvanced}
+use Rattle.frame.specs.Fades.{voiceAt, advancedBy, marksAdvanced}
 use Rattle.frame.specs.Frames.{enveloped, leveled, total, givenCount, averaged, monoMix, monoFrameBy, leftOf, rightOf, sideTotal, pairsOf, stereoFrameBy}
 use Rattle.frame.specs.Places.{mapAt}
 use Rattle.frame.specs.Whole.{heard, AllAt255, HandedThrough}
 
 -- ---- no fade
-still-mixer : (m : Mixer) → m .«crossfade_active» ≡ false → advanced m ≡ m
-unfolding advanced
-still-mixer m e = rw e
+pub still-mixer : (on : Bool) (m : Mixer) → m .«crossfade_active» ≡ false → advancedBy on m ≡ m
+unfolding advancedBy
+still-mixer on m e = rw e
 
-still-marks : (m : Mixer) (k : Marks) → m .«crossfade_active» ≡ false → marksAdvanced m k ≡ k
+pub still-marks : (m : Mixer) (k : Marks) → m .«crossfade_active» ≡ false → marksAdvanced m k ≡ k
 unfolding marksAdvanced
 still-marks m k e = rw e
 
@@ -84,7 +84,7 @@ module _ {p : Present} {raw : ℤ} (h : Valid p) (a : AllAt255 p raw) where
   unfolding monoFrameBy stereoFrameBy
   handed-through =
       let k = still-marks (p .mixer) (p .marks) (a .still) in
-      let f = still-mixer (p .mixer) (a .still) in
+      let f = still-mixer (p .marks .«sounds_on») (p .mixer) (a .still) in
       record {
         mono = rw (k, f) (level-whole _ mix-whole);
         left = λ l. rw (k, f) (level-whole _ (side-whole leftOf (left-whole (heard p) raw (a .gives) (a .level) (a .gain) l)));

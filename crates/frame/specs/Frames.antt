@@ -19,7 +19,7 @@ use Rattle.voice.specs.Voices.{tickedVoice, steppedVoice, sampleBy, pairBy}
 use Rattle.voice.specs.declared.StereoGiven.{StereoGiven}
 use Rattle.voice.specs.declared.StereoGiven.the-variants as P
 use Rattle.voice.specs.declared.Voice.{Voice}
-use Rattle.frame.specs.Fades.{advanced, voiceAt, marksAdvanced}
+use Rattle.frame.specs.Fades.{advancedBy, voiceAt, marksAdvanced}
 use Rattle.marks.specs.Marks.{noMarks, ruleAt}
 use Rattle.marks.specs.declared.Marks.{Marks}
 use Rattle.frame.specs.declared.MonoFrame.{MonoFrame}
@@ -34,9 +34,9 @@ enveloped m = withVoices m (mapFirst tickedVoice (m .n) (m .voices))
 unfoldable pub sampled : ℕ → Mixer → Mixer
 sampled k m = withVoices m (mapFirst (λ v. steppedVoice v .voice) k (m .voices))
 
--- document 01's rule of gain 255, for each voice and the master
+-- document 01's rule of gain 255, for each voice and the master, and of a fade's end
 abbrev pub oldMarks : Marks
-oldMarks = noMarks false
+oldMarks = noMarks false false
 
 -- "limit, apply master gain"
 abbrev pub leveled : Marks → Mixer → ℤ → ℤ
@@ -86,7 +86,7 @@ monoGiven r m = record { mixer = sampled (sampledCount m) m; pcm = leveled r m (
 
 -- "Every mono frame: advance the fade, tick all envelopes .., take samples, limit, apply master gain."
 unfoldable pub monoFrameBy : Marks → Mixer → MonoFrame
-monoFrameBy r m = monoGiven (marksAdvanced m r) (enveloped (advanced m))
+monoFrameBy r m = monoGiven (marksAdvanced m r) (enveloped (advancedBy (r .«sounds_on») m))
 
 -- document 01's
 abbrev pub monoFrame : Mixer → MonoFrame
@@ -156,7 +156,7 @@ stereoGiven r m =
 
 -- "Stereo goes through the same steps but ignores t and sums all voices undivided, after pan; each side is limited, given master gain"
 unfoldable pub stereoFrameBy : Marks → Mixer → StereoFrame
-stereoFrameBy r m = stereoGiven (marksAdvanced m r) (enveloped (advanced m))
+stereoFrameBy r m = stereoGiven (marksAdvanced m r) (enveloped (advancedBy (r .«sounds_on») m))
 
 -- document 01's
 abbrev pub stereoFrame : Mixer → StereoFrame

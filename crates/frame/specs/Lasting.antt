@@ -7,7 +7,7 @@ use lib.ListN.{length}
 use Rattle.config.specs.Config.{roundedUp}
 use Rattle.laws.specs.Lists.{only}
 use Rattle.mixer.specs.declared.Mixer.{Mixer}
-use Rattle.frame.specs.Fades.{fadeEnded, fadeAt, nextT, advanced}
+use Rattle.frame.specs.Fades.{fadeEndedBy, fadeAt, nextT, advancedBy, advanced}
 
 -- "Promise the count itself: 255 ÷ step, rounded up": frames from the fade's call on, the one in which it ends among them
 abbrev pub fadeCount : ℕ → ℕ
@@ -46,7 +46,8 @@ abbrev pub framesIn : {Frame Call : Type 0} → List (Step Frame Call) → ℕ
 framesIn ss = length (only isFrame ss)
 
 module _ {State Frame Call : Type 0} (b : Box State Frame Call) where
-  -- the laws from which the count follows: a frame advances the fade, and a call that lets it go on leaves its fields
+  -- the laws from which the count follows: a frame advances the fade, its fields the same whichever call began it, and a call that lets it go on
+  -- leaves them
   pub record Lawful : Type 0 where
     pub advances : (f : Frame) (e : State) → SameFade (b .mixer (b .framed f e)) (advanced (b .mixer e))
     pub leaves : (c : Call) (e : State) → b .goesOn c e ≡ true → SameFade (b .mixer (b .called c e)) (b .mixer e)
@@ -70,7 +71,9 @@ module _ {State Frame Call : Type 0} (b : Box State Frame Call) where
     pub over : count ≤ framesIn ss → b .mixer (afterAll ss e) .«crossfade_active» ≡ false
     -- a frame takes one off what is left, and nothing else does
     pub left : framesLeft (b .mixer (afterAll ss e)) ≡ count - framesIn ss
-    -- the frame of that number is the one in which voice 0 takes over; those before it move t, those after it find no fade
-    pub moves : framesIn ss + 1 < count → advanced (b .mixer (afterAll ss e)) ≡ fadeAt (b .mixer (afterAll ss e)) (nextT (b .mixer (afterAll ss e)))
-    pub ends : framesIn ss + 1 ≡ count → advanced (b .mixer (afterAll ss e)) ≡ fadeEnded (b .mixer (afterAll ss e))
-    pub rests : count ≤ framesIn ss → advanced (b .mixer (afterAll ss e)) ≡ b .mixer (afterAll ss e)
+    -- the frame of that number is the one in which voice 0 takes over, whichever call began the fade; those before it move t, those after it find
+    -- no fade
+    pub moves : (on : Bool) → framesIn ss + 1 < count
+        → advancedBy on (b .mixer (afterAll ss e)) ≡ fadeAt (b .mixer (afterAll ss e)) (nextT (b .mixer (afterAll ss e)))
+    pub ends : (on : Bool) → framesIn ss + 1 ≡ count → advancedBy on (b .mixer (afterAll ss e)) ≡ fadeEndedBy on (b .mixer (afterAll ss e))
+    pub rests : (on : Bool) → count ≤ framesIn ss → advancedBy on (b .mixer (afterAll ss e)) ≡ b .mixer (afterAll ss e)

@@ -1,4 +1,4 @@
--- A frame of a box of the present rules: the mixer's, by the marks beside its voices. Assumes nothing.
+-- A frame of a box of the present rules: the mixer's, by the marks beside its voices and the call that began the last fade. Assumes nothing.
 use Prim.Native.Nat.{ℕ}
 use lib.IntN.{ℤ}
 use Rattle.marks.specs.declared.Present.{Present}

@@ -1,7 +1,7 @@
 -- The definitions print the example, computed. Assumes nothing.
 use mathlib.Core.Path.{_≡_, refl}
 use Rattle.envelope.specs.Adsrs as A
-use Rattle.frame.specs.Fades.{advanced, marksAdvanced}
+use Rattle.frame.specs.Fades.{advancedBy, marksAdvanced}
 use Rattle.frame.specs.Frames.{enveloped, sampled, total, givenCount, averaged, monoMix, monoFrameBy, dutyFrameBy}
 use Rattle.frame.specs.Places.{mapAt}
 use Rattle.hex.specs.Hex.{between, allDigits, digitOf, hexOf}
@@ -20,5 +20,5 @@ use Rattle.framelist_answers.specs.Example.{exampleLines, exampleText}
 use Rattle.framelist_answers.specs.Lines.{started, lineAnswer, printed, framelist}
 
 pub prints : framelist exampleLines ≡ exampleText
-unfolding A.active A.beganDecay A.triggered A.nextLevel A.advancedToward A.ticked advanced marksAdvanced enveloped sampled total givenCount averaged monoMix monoFrameBy dutyFrameBy mapAt between allDigits digitOf hexOf after given heldTo older settledBy settled M.fresh M.opened duty mapped P.firstSounding P.toned startedVoice toneVoice durationOf lessOne startedTone steppedTone activeSource steppedSource silentVoice triggeredVoice audible tickedVoice steppedVoice sampleBy started lineAnswer printed
+unfolding A.active A.beganDecay A.triggered A.nextLevel A.advancedToward A.ticked advancedBy marksAdvanced enveloped sampled total givenCount averaged monoMix monoFrameBy dutyFrameBy mapAt between allDigits digitOf hexOf after given heldTo older settledBy settled M.fresh M.opened duty mapped P.firstSounding P.toned startedVoice toneVoice durationOf lessOne startedTone steppedTone activeSource steppedSource silentVoice triggeredVoice audible tickedVoice steppedVoice sampleBy started lineAnswer printed
 prints = refl

@@ -35,22 +35,24 @@ use Rattle.mixer.specs.declared.VoiceRead.the-variants as R
 use Rattle.mixer.specs.declared.VoiceStealingPolicy.{VoiceStealingPolicy}
 use Rattle.play.specs.Fades as F
 use Rattle.play.specs.Plays as P
+use Rattle.play.proofs.Laws.{OnOrNot, turned, began, on-or-not}
 use Rattle.polyblep.specs.declared.PolyBlepWaveform.{PolyBlepWaveform}
 use Rattle.requests.specs.Presents.{leftBy}
 use Rattle.start.specs.Starts.{requestStartUnder, entryStartUnder}
 use Rattle.start.specs.declared.Request.{Request}
-use Rattle.steps.specs.Steps.{Frame, mono, duty, stereo, Call, play, tone, polyBlep, bank, pan, masterGain, stop, fade, look}
+use Rattle.steps.specs.Steps as S
+use Rattle.steps.specs.Steps.{Frame, mono, duty, stereo, play, tone, polyBlep, bank, pan, masterGain, stop, fade, look}
 use Rattle.tone.specs.declared.Waveform.{Waveform}
 use Rattle.voice.specs.Voices.{audible, withPan, silentVoice, releasedVoice, stoppedVoice}
 use Rattle.voice.specs.declared.Voice.{Voice}
 use Rattle.sounder.specs.Calls.{opened, fadeMarks, bankMarks}
-use Rattle.sounder.specs.Steps.{framed, called, box}
+use Rattle.sounder.specs.Steps.{framed, Call, by01, fadeOn, called01, called, box}
 use Rattle.sounder.specs.declared.Sounder.{Sounder}
-use Rattle.sounder.proofs.Heard.{Others, HeardBy, toned-others, bleped-others, faded-heard}
+use Rattle.sounder.proofs.Heard.{Others, HeardBy, toned-others, bleped-others, faded-heard, on-heard}
 use Rattle.sounder.proofs.Settled.{silent, opened-silent, all-stopped}
 use Rattle.sounder.proofs.Valid.{panned-alike}
-use Rattle.history.specs.Histories.{History, unstarted, startedNow, handedNow, fadedNow, calledNow, framedNow, historyOf, ByHistory}
-use Rattle.history.proofs.Kept.{Kept, Rest, Past, by-history, settled-kept, mono-kept, duty-kept, stereo-kept, begun-kept, changed-kept, silent-kept}
+use Rattle.history.specs.Histories.{History, unstarted, startedNow, handedNow, fadedNow, calledNow01, calledNow, framedNow, historyOf, ByHistory}
+use Rattle.history.proofs.Kept.{Kept, Rest, Past, by-history, settled-kept, mono-kept, duty-kept, stereo-kept, begun-kept, begun-by-kept, changed-kept, silent-kept}
 
 -- ---- play
 stored-others : (vs : List Voice) (i : ℕ) (v : Voice) (j : ℕ) → heardAt (map audible (set vs i v)) j ≡ true → (j ≡ i → ⊥) → heardAt (map audible vs) j ≡ true
@@ -148,16 +150,33 @@ faded-rest m bytes id ms adsr a = by-count (ltb (m .n) 2) refl
     by-count true e = a
     by-count false e = by-entry (ltb-false (m .n) 2 e) (foundGiven (m .bank) bytes id)
 
-faded-kept : (p : Present) (h : History) (c : Changed) → Kept p h → Sized (c .mixer) → Rest (c .mixer) → HeardBy (c .outcome) (p .mixer) (c .mixer)
-    → Kept (settled (beside (c .mixer) (fadeMarks (c .outcome) (p .marks)))) (fadedNow (c .outcome) h)
-faded-kept p h c k s r a = by-outcome (c .outcome) a
+-- the second call does what the first does, or nothing
+on-sized : (m : Mixer) (bytes : List ℕ) (id ms : ℕ) (adsr : AdsrSpec) → Sized m → Sized (F.fadedOn m bytes id ms adsr .mixer)
+on-sized m bytes id ms adsr s = by-call (on-or-not m bytes id ms adsr)
   where
-    by-outcome : (o : Outcome) → HeardBy o (p .mixer) (c .mixer) → Kept (settled (beside (c .mixer) (fadeMarks o (p .marks)))) (fadedNow o h)
-    by-outcome O.Done sub = begun-kept p h 1 (c .mixer) k (omega arith) s r sub
+    by-call : OnOrNot m (F.fadedUnder true m bytes id ms adsr) (F.fadedOn m bytes id ms adsr) → Sized (F.fadedOn m bytes id ms adsr .mixer)
+    by-call (turned n e o) = rw e s
+    by-call (began d e) = rw e (faded-sized m bytes id ms adsr s)
+
+on-rest : (m : Mixer) (bytes : List ℕ) (id ms : ℕ) (adsr : AdsrSpec) → Rest m → Rest (F.fadedOn m bytes id ms adsr .mixer)
+on-rest m bytes id ms adsr a = by-call (on-or-not m bytes id ms adsr)
+  where
+    by-call : OnOrNot m (F.fadedUnder true m bytes id ms adsr) (F.fadedOn m bytes id ms adsr) → Rest (F.fadedOn m bytes id ms adsr .mixer)
+    by-call (turned n e o) = rw e a
+    by-call (began d e) = rw e (faded-rest m bytes id ms adsr a)
+
+faded-kept : (on : Bool) (p : Present) (h : History) (c : Changed) → Kept p h → Sized (c .mixer) → Rest (c .mixer) → HeardBy (c .outcome) (p .mixer) (c .mixer)
+    → Kept (settled (beside (c .mixer) (fadeMarks on (c .outcome) (p .marks)))) (fadedNow on (c .outcome) h)
+unfolding settled
+faded-kept on p h c k s r a = by-outcome (c .outcome) a
+  where
+    by-outcome : (o : Outcome) → HeardBy o (p .mixer) (c .mixer) → Kept (settled (beside (c .mixer) (fadeMarks on o (p .marks)))) (fadedNow on o h)
+    by-outcome O.Done sub = begun-by-kept on _ (startedNow 1 h) (begun-kept p h 1 (c .mixer) k (omega arith) s r sub)
     by-outcome (O.Refused e) sub =
         settled-kept (c .mixer) (p .marks) h s (k .ready .marked) (K.fewer-order (k .ready .order) sub)
         (record {
           master = k .alike .master;
+          on = k .alike .on;
           marks =
               record {
                 long = k .alike .marks .long;
@@ -212,35 +231,42 @@ banked-kept : (p : Present) (h : History) (b : Told SoundBank) → Kept p h
 banked-kept p h (refused n) k = k
 banked-kept p h (value b) k =
     let s = k .ready .sized in
-    silent-kept (M.holdingBank (p .mixer) b) h (p .marks .master)
+    silent-kept (M.holdingBank (p .mixer) b) h (p .marks .master) (p .marks .«sounds_on»)
     (record { few = s .few; full = refl; fade = s .fade })
     (all-replicate (λ (v : Voice). audible v ≡ false) 16 (silentVoice (b .«sample_rate_hz»)) (silent (b .«sample_rate_hz»)))
-    (sym (k .alike .master)) (sym (k .alike .marks .long) ∙ k .ready .marked) (k .past)
+    (sym (k .alike .master)) (sym (k .alike .on)) (sym (k .alike .marks .long) ∙ k .ready .marked) (k .past)
 
 all-stopped-here : (m : Mixer) → Rest m → All (λ v. audible v ≡ false) (M.stopped m .voices)
 unfolding M.stopped
 all-stopped-here m a = all-stopped (m .n) (m .voices) a
 
 -- ---- every call, every frame
-call-kept : (c : Call) (s : Sounder) (h : History) → Kept (s .state) h → Kept (called c s .state) (calledNow c s h)
+call-kept01 : (c : S.Call) (s : Sounder) (h : History) → Kept (s .state) h → Kept (called01 c s .state) (calledNow01 c s h)
 unfolding M.banked
-call-kept (play bytes r) s h k = played-kept (s .state) h bytes r k
-call-kept (tone hz ms w) s h k =
+call-kept01 (play bytes r) s h k = played-kept (s .state) h bytes r k
+call-kept01 (tone hz ms w) s h k =
     let m = s .state .mixer in
     begun-kept (s .state) h 0 (P.toned m hz ms w) k (omega arith) (toned-sized m hz ms w (k .ready .sized)) (toned-rest m hz ms w (k .rest)) (toned-others m hz ms w)
-call-kept (polyBlep hz ms w) s h k =
+call-kept01 (polyBlep hz ms w) s h k =
     let m = s .state .mixer in
     begun-kept (s .state) h 0 (P.polyBleped m hz ms w) k (omega arith) (bleped-sized m hz ms w (k .ready .sized)) (bleped-rest m hz ms w (k .rest)) (bleped-others m hz ms w)
-call-kept (bank rate count len) s h k = banked-kept (s .state) h (bankOf rate count len) k
-call-kept (pan i q) s h k = changed-kept (s .state) h (M.panned (s .state .mixer) i q) k (panned-sized (s .state .mixer) i q (k .ready .sized)) (panned-rest (s .state .mixer) i q (k .rest)) (panned-alike (s .state .mixer) i q)
-call-kept (masterGain gain) s h k = changed-kept (s .state) h (M.withMasterGain (s .state .mixer) gain) k (gained-sized (s .state .mixer) gain (k .ready .sized)) (gained-rest (s .state .mixer) gain (k .rest)) (gained-alike (s .state .mixer) gain)
-call-kept stop s h k =
-    silent-kept (M.stopped (s .state .mixer)) _ true (stopped-sized (s .state .mixer) (k .ready .sized)) (all-stopped-here (s .state .mixer) (k .rest)) refl
+call-kept01 (bank rate count len) s h k = banked-kept (s .state) h (bankOf rate count len) k
+call-kept01 (pan i q) s h k = changed-kept (s .state) h (M.panned (s .state .mixer) i q) k (panned-sized (s .state .mixer) i q (k .ready .sized)) (panned-rest (s .state .mixer) i q (k .rest)) (panned-alike (s .state .mixer) i q)
+call-kept01 (masterGain gain) s h k = changed-kept (s .state) h (M.withMasterGain (s .state .mixer) gain) k (gained-sized (s .state .mixer) gain (k .ready .sized)) (gained-rest (s .state .mixer) gain (k .rest)) (gained-alike (s .state .mixer) gain)
+call-kept01 stop s h k =
+    silent-kept (M.stopped (s .state .mixer)) _ true (s .state .marks .«sounds_on») (stopped-sized (s .state .mixer) (k .ready .sized)) (all-stopped-here (s .state .mixer) (k .rest)) refl
+    (sym (k .alike .on))
     (sym (k .alike .marks .long) ∙ k .ready .marked) (k .past)
-call-kept (fade bytes id ms adsr) s h k =
+call-kept01 (fade bytes id ms adsr) s h k =
     let m = s .state .mixer in
-    faded-kept (s .state) h (F.fadedUnder true m bytes id ms adsr) k (faded-sized m bytes id ms adsr (k .ready .sized)) (faded-rest m bytes id ms adsr (k .rest)) (faded-heard m bytes id ms adsr)
-call-kept look s h k = k
+    faded-kept false (s .state) h (F.fadedUnder true m bytes id ms adsr) k (faded-sized m bytes id ms adsr (k .ready .sized)) (faded-rest m bytes id ms adsr (k .rest)) (faded-heard m bytes id ms adsr)
+call-kept01 look s h k = k
+
+pub call-kept : (c : Call) (s : Sounder) (h : History) → Kept (s .state) h → Kept (called c s .state) (calledNow c s h)
+call-kept (by01 c) s h k = call-kept01 c s h k
+call-kept (fadeOn bytes id ms adsr) s h k =
+    let m = s .state .mixer in
+    faded-kept true (s .state) h (F.fadedOn m bytes id ms adsr) k (on-sized m bytes id ms adsr (k .ready .sized)) (on-rest m bytes id ms adsr (k .rest)) (on-heard m bytes id ms adsr)
 
 frame-kept : (f : Frame) (s : Sounder) (h : History) → Kept (s .state) h → Kept (framed f s .state) (framedNow s h)
 frame-kept mono s h k = mono-kept (s .state) h k
@@ -248,7 +274,7 @@ frame-kept duty s h k = duty-kept (s .state) h k
 frame-kept stereo s h k = stereo-kept (s .state) h k
 
 -- ---- in any order
-along : (ss : List (Step Frame Call)) (s : Sounder) (h : History) → Kept (s .state) h → Kept (afterAll box ss s .state) (historyOf ss s h)
+pub along : (ss : List (Step Frame Call)) (s : Sounder) (h : History) → Kept (s .state) h → Kept (afterAll box ss s .state) (historyOf ss s h)
 unfolding afterAll historyOf
 along [] s h k = k
 along (frame f ∷ ss) s h k = along ss (framed f s) (framedNow s h) (frame-kept f s h k)
@@ -273,11 +299,11 @@ none-past i = go 16 i
     go (suc m) zero = omega arith
     go (suc m) (suc j) = go m j
 
-from-opening : (n : ℕ) (config : AudioConfig) (policy : VoiceStealingPolicy) (ss : List (Step Frame Call))
+pub from-opening : (n : ℕ) (config : AudioConfig) (policy : VoiceStealingPolicy) (ss : List (Step Frame Call))
     → let s = opened n config policy .sounder in Kept (afterAll box ss s .state) (historyOf ss s unstarted)
 from-opening n config policy ss =
     let s = opened n config policy .sounder in
-    along ss s unstarted (silent-kept (s .state .mixer) unstarted true (opened-sized n config policy) (opened-silent n config policy) refl refl none-past)
+    along ss s unstarted (silent-kept (s .state .mixer) unstarted true false (opened-sized n config policy) (opened-silent n config policy) refl refl refl none-past)
 
 -- "the ranks are those that start times would give": after calls and frames in any order, from an opening on
 pub by-starts : (n : ℕ) (config : AudioConfig) (policy : VoiceStealingPolicy) (ss : List (Step Frame Call))

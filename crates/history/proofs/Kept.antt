@@ -8,7 +8,7 @@ use borrow.Author.Tests.{eqb-true, eqb-false, lt-ltb, le-ltb}
 use lib.Dec.{ltb, eqb}
 use lib.ListN.{length, getD, set, drop, replicate, length-set, length-map}
 use lib.Seq.{getD-set-same, getD-set-other, drop-set-lt}
-use Rattle.frame.specs.Fades.{takenOver, voiceAt, fadeEnded, fadeAt, nextT, advanced, marksEnded, marksAdvanced}
+use Rattle.frame.specs.Fades.{takenOver, voiceAt, fadeEndedWith, envelopeAfter, fadeEndedBy, fadeAt, nextT, advancedBy, marksEnded, marksAdvanced}
 use Rattle.frame.specs.Frames.{enveloped, sampled, sampledCount, monoFrameBy, dutyFrameBy, stereoFrameBy}
 use Rattle.frame.specs.Presents.{monoNext, dutyNext, stereoNext}
 use Rattle.frame.proofs.Alike.{Alike, settling-alike, alike-settled, advanced-alike, framed-alike}
@@ -16,15 +16,16 @@ use Rattle.frame.proofs.Sized.{Sized, Ready, sized-advanced, sized-enveloped, s
 use Rattle.laws.specs.Lists.{All, mapFirst}
 use Rattle.laws.proofs.Bools.{never}
 use Rattle.laws.proofs.Lists.{drop-mapFirst}
-use Rattle.marks.specs.Marks.{Ordered, beside, nothing, noMarks, startedMark, rankAt, heardOf, heardAt, markedAt, older, settled, settledMarks}
+use Rattle.marks.specs.Marks.{Ordered, beside, nothing, noMarks, startedMark, rankAt, heardOf, heardAt, withMarks, markedAt, older, settled, settledMarks}
 use Rattle.marks.specs.declared.Mark.{Mark}
 use Rattle.marks.specs.declared.Marks.{Marks}
 use Rattle.marks.specs.declared.Present.{Present}
 use Rattle.marks.proofs.Laws as K
 use Rattle.mixer.specs.declared.Mixer.{Mixer}
+use Rattle.sounder.specs.Calls.{begunBy}
 use Rattle.voice.specs.Voices.{audible, stoppedVoice, tickedVoice, steppedVoice}
 use Rattle.voice.specs.declared.Voice.{Voice}
-use Rattle.history.specs.Histories.{History, unstarted, startedNow, framedNow, ByHistory}
+use Rattle.history.specs.Histories.{History, startedNow, begunNow}
 
 -- no time is as late as the next
 abbrev pub Past : History → Type 0
@@ -44,7 +45,7 @@ pub record Kept (p : Present) (h : History) : Type 0 where
 
 settled-quiet : (p : Present) → settledMarks (heardOf p) (p .marks .voices) ≡ p .marks .voices → settled p ≡ p
 unfolding settled
-settled-quiet p q = ap (λ (ks : List Mark). beside (p .mixer) (record { voices = ks; master = p .marks .master })) q
+settled-quiet p q = ap (λ (ks : List Mark). beside (p .mixer) (withMarks (p .marks) ks)) q
 
 pub by-history : (p : Present) (h : History) → Kept p h → settled (beside (p .mixer) (h .marks)) ≡ p
 by-history p h k = sym (alike-settled (p .mixer) (k .ready .sized .full) (k .ready .marked) (k .alike)) ∙ settled-quiet p (k .quiet)
@@ -54,6 +55,7 @@ alike-then : (vs : List Voice) (a b c : Marks) → Alike vs a b → Alike vs b c
 alike-then vs a b c e f =
     record {
       master = e .master ∙ f .master;
+      on = e .on ∙ f .on;
       marks =
           record {
             long = e .marks .long ∙ f .marks .long;
@@ -93,20 +95,23 @@ advanced-past m h past = go (m .«crossfade_active») (eqb (nextT m) 255)
     go false e = past
 
 -- the fade's advance and the frame leave the places past N
-advanced-rest : (m : Mixer) → Sized m → Rest m → Rest (advanced m)
-unfolding advanced fadeEnded fadeAt
-advanced-rest m s a = by-active (m .«crossfade_active») refl
+advanced-rest : (on : Bool) (m : Mixer) → Sized m → Rest m → Rest (advancedBy on m)
+unfolding advancedBy fadeEndedWith fadeAt
+advanced-rest on m s a = by-active (m .«crossfade_active») refl
   where
-    by-end : 2 ≤ m .n → (e : Bool) → Rest (cond e (fadeEnded m) (fadeAt m (nextT m)))
+    first : Voice
+    first = takenOver (envelopeAfter on (voiceAt m 0) (voiceAt m 1)) (voiceAt m 0) (voiceAt m 1)
+
+    by-end : 2 ≤ m .n → (e : Bool) → Rest (cond e (fadeEndedBy on m) (fadeAt m (nextT m)))
     by-end l true =
         rw (
-          drop-set-lt (m .n) (set (m .voices) 0 (takenOver (voiceAt m 0) (voiceAt m 1))) 1 (stoppedVoice (voiceAt m 1)) (omega arith),
-          drop-set-lt (m .n) (m .voices) 0 (takenOver (voiceAt m 0) (voiceAt m 1)) (omega arith),
+          drop-set-lt (m .n) (set (m .voices) 0 first) 1 (stoppedVoice (voiceAt m 1)) (omega arith),
+          drop-set-lt (m .n) (m .voices) 0 first (omega arith),
         )
         a
     by-end l false = a
 
-    by-active : (t : Bool) → m .«crossfade_active» ≡ t → Rest (cond t (cond (eqb (nextT m) 255) (fadeEnded m) (fadeAt m (nextT m))) m)
+    by-active : (t : Bool) → m .«crossfade_active» ≡ t → Rest (cond t (cond (eqb (nextT m) 255) (fadeEndedBy on m) (fadeAt m (nextT m))) m)
     by-active true e = by-end (s .fade e) (eqb (nextT m) 255)
     by-active false e = a
 
@@ -119,34 +124,38 @@ sampled-rest c m l a =
     )
     a
 
-rest-after : (m : Mixer) (c : ℕ) → Sized m → c ≤ advanced m .n → Rest m
-    → All (λ v. audible v ≡ false) (drop (advanced m .n) (sampled c (enveloped (advanced m)) .voices))
+rest-after : (on : Bool) (m : Mixer) (c : ℕ) → Sized m → c ≤ advancedBy on m .n → Rest m
+    → All (λ v. audible v ≡ false) (drop (advancedBy on m .n) (sampled c (enveloped (advancedBy on m)) .voices))
 unfolding sampled enveloped
-rest-after m c s l a = sampled-rest c (advanced m) l (advanced-rest m s a)
+rest-after on m c s l a = sampled-rest c (advancedBy on m) l (advanced-rest on m s a)
 
-framed-kept : (p : Present) (h : History) (c : ℕ) (m : Mixer) → Kept p h → c ≤ advanced (p .mixer) .n → m .voices ≡ sampled c (enveloped (advanced (p .mixer))) .voices → m .n ≡ advanced (p .mixer) .n
+-- the fade advanced, by its call
+abbrev next : Present → Mixer
+next p = advancedBy (p .marks .«sounds_on») (p .mixer)
+
+framed-kept : (p : Present) (h : History) (c : ℕ) (m : Mixer) → Kept p h → c ≤ next p .n → m .voices ≡ sampled c (enveloped (next p)) .voices → m .n ≡ next p .n
     → Ready (beside m (marksAdvanced (p .mixer) (p .marks))) → Kept (settled (beside m (marksAdvanced (p .mixer) (p .marks)))) (record { marks = marksAdvanced (p .mixer) (h .marks); clock = h .clock })
 framed-kept p h c m k l e f r =
     settled-kept m (marksAdvanced (p .mixer) (p .marks)) (record { marks = marksAdvanced (p .mixer) (h .marks); clock = h .clock }) (r .sized) (r .marked) (r .order)
-    (rw e (framed-alike c (advanced (p .mixer)) l (advanced-alike (p .mixer) (p .marks) (k .ready .sized .full) (k .ready .marked) (h .marks) (k .alike))))
+    (rw e (framed-alike c (next p) l (advanced-alike (p .marks .«sounds_on») (p .mixer) (p .marks) (k .ready .sized .full) (k .ready .marked) (h .marks) (k .alike))))
     (advanced-past (p .mixer) h (k .past))
-    (rw (e, f) (rest-after (p .mixer) c (k .ready .sized) l (k .rest)))
+    (rw (e, f) (rest-after (p .marks .«sounds_on») (p .mixer) c (k .ready .sized) l (k .rest)))
 
-few : (p : Present) → Ready p → sampledCount (enveloped (advanced (p .mixer))) ≤ advanced (p .mixer) .n
+few : (p : Present) → Ready p → sampledCount (enveloped (next p)) ≤ next p .n
 unfolding enveloped
-few p r = sampled-few (sized-enveloped (sized-advanced (r .sized)))
+few p r = sampled-few (sized-enveloped (sized-advanced (p .marks .«sounds_on») (r .sized)))
 
 pub mono-kept : (p : Present) (h : History) → Kept p h → Kept (settled (monoNext p)) (record { marks = marksAdvanced (p .mixer) (h .marks); clock = h .clock })
 unfolding monoFrameBy sampled enveloped
-mono-kept p h k = framed-kept p h (sampledCount (enveloped (advanced (p .mixer)))) _ k (few p (k .ready)) refl refl (mono-ready p (k .ready))
+mono-kept p h k = framed-kept p h (sampledCount (enveloped (next p))) _ k (few p (k .ready)) refl refl (mono-ready p (k .ready))
 
 pub duty-kept : (p : Present) (h : History) → Kept p h → Kept (settled (dutyNext p)) (record { marks = marksAdvanced (p .mixer) (h .marks); clock = h .clock })
 unfolding dutyFrameBy monoFrameBy sampled enveloped
-duty-kept p h k = framed-kept p h (sampledCount (enveloped (advanced (p .mixer)))) _ k (few p (k .ready)) refl refl (duty-ready p (k .ready))
+duty-kept p h k = framed-kept p h (sampledCount (enveloped (next p))) _ k (few p (k .ready)) refl refl (duty-ready p (k .ready))
 
 pub stereo-kept : (p : Present) (h : History) → Kept p h → Kept (settled (stereoNext p)) (record { marks = marksAdvanced (p .mixer) (h .marks); clock = h .clock })
 unfolding stereoFrameBy sampled enveloped
-stereo-kept p h k = framed-kept p h (advanced (p .mixer) .n) _ k (omega arith) refl refl (stereo-ready p (k .ready))
+stereo-kept p h k = framed-kept p h (next p .n) _ k (omega arith) refl refl (stereo-ready p (k .ready))
 
 -- ---- a start
 module _ (p : Present) (h : History) (k : Kept p h) (i : ℕ) (l : i < 16) (vs : List Voice)
@@ -178,6 +187,7 @@ module _ (p : Present) (h : History) (k : Kept p h) (i : ℕ) (l : i < 16) (vs :
   begun-alike =
       record {
         master = k .alike .master;
+        on = k .alike .on;
         marks =
             record {
               long = length-set (p .marks .voices) i startedMark ∙ k .alike .marks .long ∙ sym (length-set (h .marks .voices) i now);
@@ -249,6 +259,17 @@ begun-kept p h i m k l s r sub =
     settled-kept m (markedAt i startedMark (p .marks)) (startedNow i h) s (length-set (p .marks .voices) i startedMark ∙ k .ready .marked)
     (begun-order p h k i l (m .voices) sub) (begun-alike p h k i l (m .voices) sub) (begun-past p h k i l (m .voices) sub) r
 
+-- ---- the call that began the last fade
+pub begun-by-kept : (on : Bool) (p : Present) (h : History) → Kept p h → Kept (beside (p .mixer) (begunBy on (p .marks))) (begunNow on h)
+begun-by-kept on p h k =
+    record {
+      ready = record { sized = k .ready .sized; marked = k .ready .marked; order = k .ready .order };
+      quiet = k .quiet;
+      alike = record { master = k .alike .master; on = refl; marks = k .alike .marks };
+      past = k .past;
+      rest = k .rest;
+    }
+
 -- ---- what starts nothing
 -- each voice as audible as before
 pub changed-kept : (p : Present) (h : History) (m : Mixer) → Kept p h → Sized m → Rest m → map audible (m .voices) ≡ heardOf p → Kept (beside m (p .marks)) h
@@ -256,7 +277,7 @@ changed-kept p h m k s r e =
     record {
       ready = record { sized = s; marked = k .ready .marked; order = rw e (k .ready .order) };
       quiet = rw e (k .quiet);
-      alike = record { master = k .alike .master; marks = rw e (k .alike .marks) };
+      alike = record { master = k .alike .master; on = k .alike .on; marks = rw e (k .alike .marks) };
       past = k .past;
       rest = r;
     }
@@ -272,9 +293,9 @@ all-drop (suc n) [] a = tt
 all-drop (suc n) (v ∷ vs) a = all-drop n vs (a .1)
 
 -- none is audible
-pub silent-kept : (m : Mixer) (h : History) (master : Bool) → Sized m → All (λ v. audible v ≡ false) (m .voices) → h .marks .master ≡ master → length (h .marks .voices) ≡ 16 → Past h
-    → Kept (beside m (noMarks master)) h
-silent-kept m h master s a e l past =
+pub silent-kept : (m : Mixer) (h : History) (master on : Bool) → Sized m → All (λ v. audible v ≡ false) (m .voices) → h .marks .master ≡ master → h .marks .«sounds_on» ≡ on
+    → length (h .marks .voices) ≡ 16 → Past h → Kept (beside m (noMarks master on)) h
+silent-kept m h master on s a e f l past =
     record {
       ready =
           record {
@@ -290,6 +311,7 @@ silent-kept m h master s a e l past =
       alike =
           record {
             master = sym e;
+            on = sym f;
             marks =
                 record {
                   long = sym l;

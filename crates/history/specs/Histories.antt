@@ -2,7 +2,7 @@
 -- keeps none, so nothing can run over. Assumes nothing.
 use Prim.Native.Nat.{ℕ, suc}
 use mathlib.Core.Path.{_≡_}
-use mathlib.Core.Bool.{true}
+use mathlib.Core.Bool.{Bool, true, false}
 use mathlib.Core.List.{List, [], _∷_}
 use Rattle.error.specs.Told.{Told, value, refused}
 use Rattle.frame.specs.Fades.{marksAdvanced}
@@ -12,9 +12,10 @@ use Rattle.marks.specs.declared.Marks.{Marks}
 use Rattle.mixer.specs.declared.Outcome.{Outcome}
 use Rattle.mixer.specs.declared.Outcome.the-variants as O
 use Rattle.play.specs.Plays.{toldPlay}
-use Rattle.steps.specs.Steps.{Frame, Call, play, tone, polyBlep, bank, pan, masterGain, stop, fade, look}
-use Rattle.sounder.specs.Calls.{played, faded}
-use Rattle.sounder.specs.Steps.{framed, called}
+use Rattle.steps.specs.Steps as S
+use Rattle.steps.specs.Steps.{Frame, play, tone, polyBlep, bank, pan, masterGain, stop, fade, look}
+use Rattle.sounder.specs.Calls.{played, begunBy, faded, fadedOn}
+use Rattle.sounder.specs.Steps.{framed, Call, by01, fadeOn, called}
 use Rattle.sounder.specs.declared.Sounder.{Sounder}
 
 -- beside each voice, in place of a rank, the time of its last start; and the time of the next one
@@ -24,7 +25,7 @@ pub record History : Type 0 where
 
 -- Nothing was started yet. Times begin at 256, since 255 is none.
 abbrev pub unstarted : History
-unstarted = record { marks = noMarks true; clock = 256 }
+unstarted = record { marks = noMarks true false; clock = 256 }
 
 abbrev pub startedNow : ℕ → History → History
 startedNow i h = record { marks = markedAt i (record { whole = true; rank = h .clock }) (h .marks); clock = suc (h .clock) }
@@ -33,21 +34,30 @@ abbrev pub handedNow : Told ℕ → History → History
 handedNow (value i) h = startedNow i h
 handedNow (refused n) h = h
 
-abbrev pub fadedNow : Outcome → History → History
-fadedNow O.Done h = startedNow 1 h
-fadedNow (O.Refused e) h = h
+-- "Both calls set which of them began the last fade; nothing else changes that"
+abbrev pub begunNow : Bool → History → History
+begunNow on h = record { marks = begunBy on (h .marks); clock = h .clock }
+
+abbrev pub fadedNow : Bool → Outcome → History → History
+fadedNow on O.Done h = begunNow on (startedNow 1 h)
+fadedNow on (O.Refused e) h = h
 
 -- "Tone and PolyBLEP starts count as starts"; a fade starts voice 1. A stop gives the master the present rule.
+abbrev pub calledNow01 : S.Call → Sounder → History → History
+calledNow01 (play bytes r) s h = handedNow (toldPlay (played (s .state) bytes r .outcome)) h
+calledNow01 (tone hz ms waveform) s h = startedNow 0 h
+calledNow01 (polyBlep hz ms waveform) s h = startedNow 0 h
+calledNow01 (bank rate count len) s h = h
+calledNow01 (pan i q) s h = h
+calledNow01 (masterGain gain) s h = h
+calledNow01 stop s h =
+    record { marks = record { voices = h .marks .voices; master = true; «sounds_on» = h .marks .«sounds_on» }; clock = h .clock }
+calledNow01 (fade bytes id ms adsr) s h = fadedNow false (faded (s .state) bytes id ms adsr .outcome) h
+calledNow01 look s h = h
+
 abbrev pub calledNow : Call → Sounder → History → History
-calledNow (play bytes r) s h = handedNow (toldPlay (played (s .state) bytes r .outcome)) h
-calledNow (tone hz ms waveform) s h = startedNow 0 h
-calledNow (polyBlep hz ms waveform) s h = startedNow 0 h
-calledNow (bank rate count len) s h = h
-calledNow (pan i q) s h = h
-calledNow (masterGain gain) s h = h
-calledNow stop s h = record { marks = record { voices = h .marks .voices; master = true }; clock = h .clock }
-calledNow (fade bytes id ms adsr) s h = fadedNow (faded (s .state) bytes id ms adsr .outcome) h
-calledNow look s h = h
+calledNow (by01 c) s h = calledNow01 c s h
+calledNow (fadeOn bytes id ms adsr) s h = fadedNow true (fadedOn (s .state) bytes id ms adsr .outcome) h
 
 -- "at a fade's end voice 0, if then audible, takes voice 1's place in age"
 abbrev pub framedNow : Sounder → History → History
@@ -59,6 +69,7 @@ historyOf [] s h = h
 historyOf (frame f ∷ ss) s h = historyOf ss (framed f s) (framedNow s h)
 historyOf (call c ∷ ss) s h = historyOf ss (called c s) (calledNow c s h)
 
--- the box is what its history says: beside an audible voice its rule, and how many audible voices were started before it
+-- the box is what its history says: beside an audible voice its rule, and how many audible voices were started before it; and which call began the
+-- last fade
 abbrev pub ByHistory : Sounder → History → Type 0
 ByHistory s h = settled (beside (s .state .mixer) (h .marks)) ≡ s .state

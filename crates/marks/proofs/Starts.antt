@@ -10,7 +10,7 @@ use Rattle.mixer.specs.Mixers as M
 use Rattle.mixer.specs.declared.Mixer.{Mixer}
 use Rattle.voice.specs.Voices.{audible}
 use Rattle.voice.specs.declared.Voice.{Voice}
-use Rattle.marks.specs.Marks.{Valid, Ordered, beside, startedMark, markedAt, heardOf, heardAt, settled, settledMarks}
+use Rattle.marks.specs.Marks.{Valid, Ordered, beside, startedMark, withMarks, markedAt, heardOf, heardAt, settled, settledMarks}
 use Rattle.marks.specs.Steps.{renewed}
 use Rattle.marks.specs.declared.Mark.{Mark}
 use Rattle.marks.specs.declared.Present.{Present}
@@ -45,10 +45,10 @@ module _ {p : Present} (h : Valid p) (i : ℕ) (l : i < 16) where
   -- beside settled marks a start is settled at once
   pub stored-settled : (v : Voice) → audible v ≡ true
       → settled (beside (M.withVoices (p .mixer) (set (p .mixer .voices) i v)) (markedAt i startedMark (p .marks)))
-      ≡ beside (M.withVoices (p .mixer) (set (p .mixer .voices) i v)) (record { voices = renewed i (p .marks .voices); master = p .marks .master })
+      ≡ beside (M.withVoices (p .mixer) (set (p .mixer .voices) i v)) (withMarks (p .marks) (renewed i (p .marks .voices)))
   unfolding settled
   stored-settled v e =
       ap
-      (λ (ks : List Mark). beside (M.withVoices (p .mixer) (set (p .mixer .voices) i v)) (record { voices = ks; master = p .marks .master }))
+      (λ (ks : List Mark). beside (M.withVoices (p .mixer) (set (p .mixer .voices) i v)) (withMarks (p .marks) ks))
       (rw (map-set audible (p .mixer .voices) i v, e)
       (renewed-settled (heardOf p) (p .marks .voices) i (valid-heard h) (h .full) (valid-quiet h) l))

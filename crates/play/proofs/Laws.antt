@@ -2,26 +2,28 @@
 use Prim.Native.Nat.{ℕ, zero, suc, _≤_, _<_}
 use native.Mathlib.Omega.{arith}
 use mathlib.Core.Path.{_≡_, refl}
-use mathlib.Core.Bool.{Bool, cond}
+use mathlib.Core.Bool.{Bool, true, false, cond}
 use mathlib.Core.List.{List}
 use borrow.Author.Tests.{eq-eqb, ne-eqb, le-ltb}
-use lib.Dec.{eqb}
+use lib.Dec.{eqb, ltb}
 use lib.ListN.{length, getD, set, length-set}
 use lib.Seq.{drop-set-lt}
 use Rattle.laws.proofs.Lists.{getD-any, all-set}
 use Rattle.bank.specs.Search.{foundGiven}
 use Rattle.bank.specs.declared.EffectEntry.{EffectEntry}
 use Rattle.envelope.specs.declared.AdsrSpec.{AdsrSpec}
-use Rattle.error.specs.Told.{value, refused}
-use Rattle.start.specs.Starts.{entryStartUnder}
+use Rattle.error.specs.Told.{Told, value, refused, andThen}
+use Rattle.start.specs.Starts.{entryStartUnder, requestStartUnder}
 use Rattle.voice.specs.Voices as S
 use Rattle.voice.specs.declared.Voice.{Voice}
 use Rattle.voice.proofs.Laws as L
+use Rattle.mixer.specs.declared.Changed.{Changed}
 use Rattle.mixer.specs.declared.Mixer.{Mixer}
+use Rattle.mixer.specs.declared.Outcome.the-variants as O
 use Rattle.mixer.specs.Mixers.{Valid, withVoices, unchanged}
 use Rattle.mixer.proofs.Laws.{valid-voice, valid-stored}
 use Rattle.play.specs.Plays.{firstSounding}
-use Rattle.play.specs.Fades.{firstReleased, begun, fadedBy, fadedUnder}
+use Rattle.play.specs.Fades.{firstReleased, begun, fadedBy, fadedTo, fadedUnder, fadedOnBy, fadedOn}
 
 pub valid-first : {m : Mixer} (v : Voice) → Valid m → S.Valid v → Valid (firstSounding m v)
 unfolding firstSounding
@@ -82,3 +84,28 @@ module _ (parted : Bool) (m : Mixer) (bytes : List ℕ) (id ms : ℕ) (adsr : Ad
       → fadedUnder parted m bytes id ms adsr ≡ unchanged (firstReleased m) n
   unfolding fadedUnder fadedBy
   refused-there entry e s = rw (le-ltb (m .n) 2 two, e, s)
+
+-- ---- the second fade call: it is turned down, by the old call's number, and has changed nothing, or it does what the old call does
+pub data OnOrNot (m : Mixer) (old on : Changed) : Type 0 where
+  turned : (n : ℕ) → on ≡ unchanged m n → old .outcome ≡ on .outcome → OnOrNot m old on
+  began : on .outcome ≡ O.Done → on ≡ old → OnOrNot m old on
+
+pub on-or-not : (m : Mixer) (bytes : List ℕ) (id ms : ℕ) (adsr : AdsrSpec) → OnOrNot m (fadedUnder true m bytes id ms adsr) (fadedOn m bytes id ms adsr)
+unfolding fadedUnder fadedOn fadedBy requestStartUnder
+on-or-not m bytes id ms adsr = by-count (ltb (m .n) 2)
+  where
+    by-start : (s : Told Voice) → OnOrNot m (fadedBy (firstReleased m) ms s) (fadedOnBy m ms s)
+    by-start (refused n) = turned n refl refl
+    by-start (value v) = began refl refl
+
+    by-entry : (t : Told EffectEntry)
+        → OnOrNot m (fadedTo true m bytes ms adsr t) (fadedOnBy m ms (andThen t (λ entry. entryStartUnder true (m .bank) bytes entry adsr 128)))
+    by-entry (refused n) = turned n refl refl
+    by-entry (value entry) = by-start (entryStartUnder true (m .bank) bytes entry adsr 128)
+
+    by-count : (t : Bool)
+        → OnOrNot m (cond t (unchanged m 5) (fadedTo true m bytes ms adsr (foundGiven (m .bank) bytes id)))
+        (cond t (unchanged m 5)
+        (fadedOnBy m ms (andThen (foundGiven (m .bank) bytes id) (λ entry. entryStartUnder true (m .bank) bytes entry adsr 128))))
+    by-count true = turned 5 refl refl
+    by-count false = by-entry (foundGiven (m .bank) bytes id)

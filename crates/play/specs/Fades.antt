@@ -9,7 +9,7 @@ use Rattle.bank.specs.declared.EffectEntry.{EffectEntry}
 use Rattle.config.specs.Config.{fadeStep}
 use Rattle.envelope.specs.declared.AdsrSpec.{AdsrSpec}
 use Rattle.error.specs.Told.{Told, value, refused}
-use Rattle.start.specs.Starts.{entryStartUnder}
+use Rattle.start.specs.Starts.{entryStartUnder, requestStartUnder}
 use Rattle.voice.specs.Voices.{silentVoice, releasedVoice}
 use Rattle.voice.specs.declared.Voice.{Voice}
 use Rattle.mixer.specs.Mixers.{withVoices, unchanged}
@@ -54,3 +54,14 @@ fadedUnder parted m bytes id ms adsr = cond (ltb (m .n) 2) (unchanged m 5) (fade
 -- by document 01
 abbrev pub faded : Mixer → List ℕ → ℕ → ℕ → AdsrSpec → Changed
 faded m bytes id ms adsr = fadedUnder false m bytes id ms adsr
+
+-- ---- document 02's second fade call
+-- "It also starts voice 1 before it releases voice 0, so that being turned down changes nothing at all."
+abbrev pub fadedOnBy : Mixer → ℕ → Told Voice → Changed
+fadedOnBy m ms (refused n) = unchanged m n
+fadedOnBy m ms (value v) = fadedBy (firstReleased m) ms (value v)
+
+-- the table's places are the old call's: N below 2, then bank, entry search and entry start
+unfoldable pub fadedOn : Mixer → List ℕ → ℕ → ℕ → AdsrSpec → Changed
+fadedOn m bytes id ms adsr =
+    cond (ltb (m .n) 2) (unchanged m 5) (fadedOnBy m ms (requestStartUnder true (m .bank) bytes (record { id = id; adsr = adsr; priority = 128 })))

@@ -6,7 +6,7 @@ ghost use Rattle.error.specs.Told.{ValidTold};
 ghost use Rattle.start.specs.Starts.{toldStart};
 ghost use Rattle.voice.specs.Voices as S;
 ghost use Rattle.mixer.specs.Mixers.{Valid, ValidChanged};
-ghost use Rattle.play.specs.Fades.{firstReleased, begun, fadedBy, fadedUnder};
+ghost use Rattle.play.specs.Fades.{firstReleased, begun, fadedBy, fadedUnder, fadedOn};
 use bank::EntryRead;
 use envelope::AdsrSpec;
 use error::AudioError;
@@ -14,6 +14,7 @@ use mixer::Changed;
 use mixer::Mixer;
 use mixer::Outcome;
 use start::EntryStart;
+use start::Request;
 use voice::Voice;
 
 fn first_released(m: Mixer) -> Mixer
@@ -91,5 +92,39 @@ pub fn crossfade_to(
             let started = start::start_entry(bank, bytes, entry, adsr, 128, parted);
             faded_by(released, duration_ms, started)
         }
+    }
+}
+
+// The fade after which voice 0 sounds on: voice 1 is started first, so that a refusal changes nothing.
+pub fn crossfade_sounding_on(
+    m: Mixer,
+    bytes: &[u8],
+    effect_id: u16,
+    duration_ms: u16,
+    adsr: AdsrSpec,
+) -> Changed
+    requires { ⌜ Valid m ⌝ }
+    ensures { λ r. ⌜ Made ValidChanged (fadedOn m (now (bytes .entry)) «effect_id» «duration_ms» adsr) r ⌝ }
+{
+    if m.n < 2 {
+        return Changed {
+            outcome: Outcome::Refused(AudioError::VoiceBusy),
+            mixer: m,
+        };
+    }
+    let bank = m.bank;
+    let request = Request {
+        id: effect_id,
+        adsr,
+        priority: 128,
+    };
+    let started = start::start_request(bank, bytes, request, true);
+    let fading = first_released(m);
+    match started {
+        EntryStart::Refused(e) => Changed {
+            outcome: Outcome::Refused(e),
+            mixer: m,
+        },
+        EntryStart::Voice(_) => faded_by(fading, duration_ms, started),
     }
 }

@@ -66,12 +66,12 @@ unfolding T.overText
 over-within ms rate =
     words-within 35 (eqb rate 0) _ _ refl (simp length-append (omega (arith, tenths-within (roundedUp (10_000 * fadeCount (fadeStep ms rate)) rate))))
 
-fade-within : (l answer : List ℕ) (e : OpenBox) (c : Clock) → length (T.fadeText l answer e c) ≤ 256
+fade-within : (call l answer : List ℕ) (e : OpenBox) (c : Clock) → length call ≤ 23 → length (T.fadeText call l answer e c) ≤ 256
 unfolding T.fadeText
-fade-within l answer e c =
+fade-within call l answer e c h =
     let last = either-within 89 (eqb (byteAt answer 0) 0) (T.overText (wideAt l 3) (mixerOf e .config .«sample_rate_hz») ++ words "\n") (T.endText (byteAt answer 0))
     (simp length-append (omega (arith, over-within (wideAt l 3) (mixerOf e .config .«sample_rate_hz»)))) (end-within (byteAt answer 0)) in
-    simp length-append (omega (arith, time-within c, decimal-within (wideAt l 1), decimal-within (wideAt l 3), last))
+    simp length-append (omega (arith, h, time-within c, decimal-within (wideAt l 1), decimal-within (wideAt l 3), last))
 
 lasting-within : (ms : ℕ) → length (T.lastingText ms) ≤ 28
 unfolding T.lastingText
@@ -111,7 +111,7 @@ line-within l answer e c =
     either-within 256 (eqb code 0x10) _ _ (count-within (words "open ") (byteAt l 1) (words " voice") (longAt l 2) answer c (omega arith) (omega arith))
     (either-within 256 (eqb code 0x11) _ _ (count-within (words "set a bank of ") (wideAt l 5) (words " sound") (longAt l 1) answer c (omega arith) (omega arith))
     (either-within 256 (eqb code 0x13) _ _ (play-within l answer e c)
-    (either-within 256 (eqb code 0x14) _ _ (fade-within l answer e c)
+    (either-within 256 (eqb code 0x14) _ _ (fade-within T.fadeWords l answer e c (omega arith))
     (either-within 256 (eqb code 0x15) _ _ (tone-within l e c)
     (either-within 256 (eqb code 0x16) _ _ (polyblep-within l e c)
     (either-within 256 (eqb code 0x19) _ _ (stop-within c)
@@ -119,7 +119,8 @@ line-within l answer e c =
     (either-within 256 (eqb code 0x1B) _ _ (ask-within T.payloadQuestion answer c (omega arith))
     (either-within 256 (eqb code 0x1C) _ _ (ask-within (T.voiceQuestion l) answer c (simp length-append (omega (arith, decimal-within (byteAt l 1)))))
     (either-within 256 (eqb code 0x70) _ _ (count-within (words "open a box of the present rules, ") (byteAt l 1) (words " voice") (longAt l 2) answer c (omega arith) (omega arith))
-    (omega arith)))))))))))
+    (either-within 256 (eqb code 0x73) _ _ (fade-within T.fadeOnWords l answer e c (omega arith))
+    (omega arith))))))))))))
 
 pub total-within : (c : Clock) → length (T.totalText c) ≤ 256
 unfolding T.totalText

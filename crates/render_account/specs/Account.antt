@@ -94,9 +94,16 @@ unfoldable pub overText : ℕ → ℕ → List ℕ
 overText ms rate =
     cond (eqb rate 0) (words ": over in 1 frame") (words ": over in " ++ tenthsText (roundedUp (10_000 * fadeCount (fadeStep ms rate)) rate) ++ words " ms")
 
-unfoldable pub fadeText : List ℕ → List ℕ → OpenBox → Clock → List ℕ
-fadeText l answer e c =
-    timeText c ++ words "fade to " ++ decimal (wideAt l 1) ++ words " over " ++ decimal (wideAt l 3) ++ words " ms"
+-- a fade, by the call that is asked for
+abbrev pub fadeWords : List ℕ
+fadeWords = words "fade to "
+
+abbrev pub fadeOnWords : List ℕ
+fadeOnWords = words "fade that sounds on to "
+
+unfoldable pub fadeText : List ℕ → List ℕ → List ℕ → OpenBox → Clock → List ℕ
+fadeText call l answer e c =
+    timeText c ++ call ++ decimal (wideAt l 1) ++ words " over " ++ decimal (wideAt l 3) ++ words " ms"
     ++ cond (eqb (numberIn answer) 0) (overText (wideAt l 3) (mixerOf e .config .«sample_rate_hz») ++ words "\n") (endText (numberIn answer))
 
 -- a tone of 0 ms never ends
@@ -146,7 +153,7 @@ lineText l answer e c =
     cond (eqb code 0x10) (openText l answer c)
     (cond (eqb code 0x11) (bankText l answer c)
     (cond (eqb code 0x13) (playText l answer e c)
-    (cond (eqb code 0x14) (fadeText l answer e c)
+    (cond (eqb code 0x14) (fadeText fadeWords l answer e c)
     (cond (eqb code 0x15) (toneText l e c)
     (cond (eqb code 0x16) (polyblepText l e c)
     (cond (eqb code 0x19) (stopText c)
@@ -154,7 +161,8 @@ lineText l answer e c =
     (cond (eqb code 0x1B) (askText payloadQuestion answer c)
     (cond (eqb code 0x1C) (askText (voiceQuestion l) answer c)
     (cond (eqb code 0x70) (presentText l answer c)
-    []))))))))))
+    (cond (eqb code 0x73) (fadeText fadeOnWords l answer e c)
+    [])))))))))))
 
 -- the account's last line; a frame has 4 bytes
 unfoldable pub totalText : Clock → List ℕ

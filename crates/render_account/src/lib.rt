@@ -72,10 +72,11 @@ fn played(l: &[u8], answer: &[u8], e: OpenBox, c: Clock) -> Text
     ended(asked, number)
 }
 
-fn faded(l: &[u8], answer: &[u8], e: OpenBox, c: Clock) -> Text
-    ensures { λ r. ⌜ Says (T.fadeText (now (l .entry)) (now (answer .entry)) e c) r ⌝ }
+// A fade, by the call that is asked for.
+fn fading(call: &[u8], l: &[u8], answer: &[u8], e: OpenBox, c: Clock) -> Text
+    ensures { λ r. ⌜ Says (T.fadeText (now (call .entry)) (now (l .entry)) (now (answer .entry)) e c) r ⌝ }
 {
-    let id = count(say(at_time(c), b"fade to "), wide_at(l, 1) as u64);
+    let id = count(say(at_time(c), call), wide_at(l, 1) as u64);
     let ms = wide_at(l, 3);
     let asked = say(count(say(id, b" over "), ms as u64), b" ms");
     let number = byte_at(answer, 0);
@@ -84,6 +85,18 @@ fn faded(l: &[u8], answer: &[u8], e: OpenBox, c: Clock) -> Text
         return say(over(asked, ms, config.sample_rate_hz), b"\n");
     }
     ended(asked, number)
+}
+
+fn faded(l: &[u8], answer: &[u8], e: OpenBox, c: Clock) -> Text
+    ensures { λ r. ⌜ Says (T.fadeText T.fadeWords (now (l .entry)) (now (answer .entry)) e c) r ⌝ }
+{
+    fading(b"fade to ", l, answer, e, c)
+}
+
+fn faded_on(l: &[u8], answer: &[u8], e: OpenBox, c: Clock) -> Text
+    ensures { λ r. ⌜ Says (T.fadeText T.fadeOnWords (now (l .entry)) (now (answer .entry)) e c) r ⌝ }
+{
+    fading(b"fade that sounds on to ", l, answer, e, c)
 }
 
 fn tone_name(t: Text, waveform: u8) -> Text
@@ -182,6 +195,7 @@ pub fn tell(l: &[u8], answer: &[u8], e: OpenBox, c: Clock) -> Text
         0x1b => looked_up(answer, c),
         0x1c => allocated(l, answer, c),
         0x70 => opened_present(l, answer, c),
+        0x73 => faded_on(l, answer, e, c),
         _ => empty(),
     }
 }

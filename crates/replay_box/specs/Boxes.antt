@@ -99,6 +99,10 @@ faded b bytes id ms adsr =
     (sounderChanged b (C.faded (b .sounder .state) bytes id ms adsr))
     (engineChanged b (E.changedBox (F.faded (b .engine .state) bytes id ms adsr)))
 
+-- the fade that keeps sounding, which document 01's box has not: of the box of the present rules, whichever is open
+unfoldable pub fadedOn : OpenBox → List ℕ → ℕ → ℕ → AdsrSpec → BoxChanged
+fadedOn b bytes id ms adsr = sounderChanged b (C.fadedOn (b .sounder .state) bytes id ms adsr)
+
 unfoldable pub played : OpenBox → List ℕ → Request → BoxPlayed
 played b bytes r =
     cond (b .present) (sounderPlayed b (C.played (b .sounder .state) bytes r)) (enginePlayed b (E.playedBox (P.played (b .engine .state) bytes r)))

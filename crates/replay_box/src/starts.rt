@@ -1,6 +1,6 @@
 // The calls that start voices of the box that a script has open.
 ghost use Rattle.laws.specs.Made.{Made};
-ghost use Rattle.replay_box.specs.Boxes.{ValidBox, ValidBoxChanged, ValidBoxPlayed, toned, polyBleped, faded, played};
+ghost use Rattle.replay_box.specs.Boxes.{ValidBox, ValidBoxChanged, ValidBoxPlayed, toned, polyBleped, faded, fadedOn, played};
 ghost use Rattle.sounder.specs.Sounders.{requestOf};
 use super::BoxChanged;
 use super::BoxPlayed;
@@ -66,6 +66,25 @@ impl OpenBox {
         let outcome = c.outcome;
         let engine = c.engine;
         let held = OpenBox { engine, ..self };
+        BoxChanged { outcome, held }
+    }
+
+    // Of the box of the present rules: document 01's has no such call.
+    pub fn crossfade_sounding_on(
+        self,
+        bytes: &[u8],
+        effect_id: u16,
+        duration_ms: u16,
+        adsr: AdsrSpec,
+    ) -> BoxChanged
+        requires { ⌜ ValidBox self ⌝ }
+        ensures { λ r. ⌜ Made ValidBoxChanged (fadedOn self (now (bytes .entry)) «effect_id» «duration_ms» adsr) r ⌝ }
+    {
+        let s = self.sounder;
+        let c = s.crossfade_sounding_on(bytes, effect_id, duration_ms, adsr);
+        let outcome = c.outcome;
+        let sounder = c.sounder;
+        let held = OpenBox { sounder, ..self };
         BoxChanged { outcome, held }
     }
 

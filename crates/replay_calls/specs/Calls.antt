@@ -1,4 +1,4 @@
--- The records 11, 13 to 1D, 2B, 2C, 30, 62 to 69, 79 and 7A: the length and the fields that each allows, the call that it makes, and the reply. Fields count
+-- The records 11, 13 to 1D, 2B, 2C, 30, 62 to 69, 73, 79 and 7A: the length and the fields that each allows, the call that it makes, and the reply. Fields count
 -- from byte 1 on. Assumes nothing.
 use Prim.Native.Nat.{ℕ, _+_, _*_}
 use mathlib.Core.Bool.{Bool, false, cond, _&&_}
@@ -18,7 +18,7 @@ use Rattle.frame.specs.Lasting.{framesLeft}
 use Rattle.play.specs.Plays.{toldPlay}
 use Rattle.play.specs.declared.PlayOutcome.{PlayOutcome}
 use Rattle.sounder.specs.Sounders.{requestOf}
-use Rattle.replay_box.specs.Boxes.{ValidBox, mixerOf, placeIn, banked, played, faded, toned, polyBleped, panned, withMasterGain, stopped}
+use Rattle.replay_box.specs.Boxes.{ValidBox, mixerOf, placeIn, banked, played, faded, fadedOn, toned, polyBleped, panned, withMasterGain, stopped}
 use Rattle.replay_box.specs.Frames.{sampled, dutied, sided, wideSided}
 use Rattle.replay_box.specs.declared.OpenBox.{OpenBox}
 use Rattle.replay_box.specs.declared.BoxChanged.{BoxChanged}
@@ -68,8 +68,9 @@ allowed code l =
     (cond (eqb code 0x67) (sizedAs 0 l)
     (cond (eqb code 0x68) (sizedAs 0 l)
     (cond (eqb code 0x69) (sizedAs 1 l)
+    (cond (eqb code 0x73) (sizedAs 11 l)
     (cond (eqb code 0x79) (sizedAs 0 l)
-    (cond (eqb code 0x7A) (sizedAs 0 l) false))))))))))))))))))))))))
+    (cond (eqb code 0x7A) (sizedAs 0 l) false)))))))))))))))))))))))))
 
 -- "number: two digits, 00 where accepted, else the refusal number"
 abbrev pub outcomeReply : Outcome → Reply
@@ -184,6 +185,10 @@ wideSidesCall f = asked (R.WideTwo (ofZ w16 (f .left)) (ofZ w16 (f .right))) (f 
 unfoldable pub wideStereoCall : OpenBox → Called
 wideStereoCall e = wideSidesCall (wideSided e)
 
+-- 73, fade that keeps sounding: "as 14 | number"; a bad line on document 01's box
+unfoldable pub fadeOnCall : List ℕ → List ℕ → OpenBox → Called
+fadeOnCall l bytes e = cond (e .present) (changedCall (fadedOn e bytes (wideAt l 1) (wideAt l 3) (specAt l 5))) (asked R.Bad e)
+
 -- 79, frames that the fade has left: "2 digits"
 unfoldable pub fadeLeftCall : OpenBox → Called
 fadeLeftCall e = asked (R.Number (framesLeft (mixerOf e))) e
@@ -203,8 +208,9 @@ laterCall code l bytes e =
     (cond (eqb code 0x67) (dutyCall e)
     (cond (eqb code 0x68) (wideStereoCall e)
     (cond (eqb code 0x69) (asked (R.Voice (byteAt l 1)) e)
+    (cond (eqb code 0x73) (fadeOnCall l bytes e)
     (cond (eqb code 0x79) (fadeLeftCall e)
-    (cond (eqb code 0x7A) (ranksCall e) (asked R.Bad e))))))))))
+    (cond (eqb code 0x7A) (ranksCall e) (asked R.Bad e)))))))))))
 
 -- by the code. 1B and 30 print what the box holds.
 unfoldable pub callFor : ℕ → List ℕ → List ℕ → OpenBox → Called

@@ -7,7 +7,7 @@ ghost use Rattle.hex.specs.Hex.{byteAt};
 ghost use Rattle.allocate.specs.Allocation.{toldPlace};
 ghost use Rattle.bank.specs.Entries.{toldEntry};
 ghost use Rattle.replay_box.specs.Boxes.{ValidBox};
-ghost use Rattle.replay_calls.specs.Calls.{ValidCalled, sizedAs, allowed, outcomeReply, playReply, bankCall, playCall, fadeCall, toneCall, polyBlepCall, panCall, gainCall, stopCall, entryReply, searchCall, placeReply, allocateCall, audibleCall, stereoCall, dutyCall, plainPlayCall, panReply, panReadCall, sampleCall, wideStereoCall, fadeLeftCall, ranksCall, laterCall, callFor, called};
+ghost use Rattle.replay_calls.specs.Calls.{ValidCalled, sizedAs, allowed, outcomeReply, playReply, bankCall, playCall, fadeCall, toneCall, polyBlepCall, panCall, gainCall, stopCall, entryReply, searchCall, placeReply, allocateCall, audibleCall, stereoCall, dutyCall, plainPlayCall, panReply, panReadCall, sampleCall, wideStereoCall, fadeOnCall, fadeLeftCall, ranksCall, laterCall, callFor, called};
 use allocate::Allocated;
 use bank::EffectEntry;
 use bank::EntryRead;
@@ -85,6 +85,7 @@ fn is_allowed(code: u8, l: &[u8]) -> bool
         0x67 => n == 2,
         0x68 => n == 2,
         0x69 => n == 4,
+        0x73 => n == 24,
         0x79 => n == 2,
         0x7a => n == 2,
         _ => false,
@@ -357,6 +358,26 @@ fn wide_stereo_call(e: OpenBox) -> Called
     }
 }
 
+fn fade_on_call(l: &[u8], bytes: &[u8], e: OpenBox) -> Called
+    requires { ⌜ ValidBox e ⌝ }
+    ensures { λ r. ⌜ Made ValidCalled (fadeOnCall (now (l .entry)) (now (bytes .entry)) e) r ⌝ }
+{
+    if e.is_present() {
+        let envelope = spec_at(l, 5);
+        let c = e.crossfade_sounding_on(bytes, wide_at(l, 1), wide_at(l, 3), envelope);
+        let outcome = c.outcome;
+        let held = c.held;
+        return Called {
+            reply: outcome_reply(outcome),
+            held,
+        };
+    }
+    Called {
+        reply: Reply::Bad,
+        held: e,
+    }
+}
+
 fn fade_left_call(e: OpenBox) -> Called
     requires { ⌜ ValidBox e ⌝ }
     ensures { λ r. ⌜ Made ValidCalled (fadeLeftCall e) r ⌝ }
@@ -407,6 +428,7 @@ fn later_call(code: u8, l: &[u8], bytes: &[u8], e: OpenBox) -> Called
             reply: Reply::Voice(byte_at(l, 1)),
             held: e,
         },
+        0x73 => fade_on_call(l, bytes, e),
         0x79 => fade_left_call(e),
         0x7a => ranks_call(e),
         _ => Called {

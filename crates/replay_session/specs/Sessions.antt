@@ -142,9 +142,9 @@ fillAnswer s l =
 unfoldable pub aloneAnswer : Session → List ℕ → Answer
 aloneAnswer s l = record { text = A.replyText l; more = A.goesOn (replyOf l); session = s }
 
--- the codes 11, 13 to 1D, 2B, 2C, 30, 62 to 69 and 79
+-- the codes 11, 13 to 1D, 2B, 2C, 30, 62 to 69, 73, 79 and 7A
 abbrev pub isCall : ℕ → Bool
-isCall code = eqb code 0x11 || (leb 0x13 code && leb code 0x1D) || eqb code 0x2B || eqb code 0x2C || eqb code 0x30 || (leb 0x62 code && leb code 0x69) || eqb code 0x79 || eqb code 0x7A
+isCall code = eqb code 0x11 || (leb 0x13 code && leb code 0x1D) || eqb code 0x2B || eqb code 0x2C || eqb code 0x30 || (leb 0x62 code && leb code 0x69) || eqb code 0x73 || eqb code 0x79 || eqb code 0x7A
 
 -- the codes 20 to 2A
 abbrev pub isFill : ℕ → Bool

@@ -286,6 +286,7 @@ fn is_call(code: u8) -> bool
         0x2c => true,
         0x30 => true,
         0x62..=0x69 => true,
+        0x73 => true,
         0x79 => true,
         0x7a => true,
         _ => false,

@@ -173,6 +173,7 @@ ranks-alone p bytes r i h e =
     let f = left-stored true p q i (s .voice) h b (s .heard) (s .mixer) e in
     record {
       master = ap (λ (x : Present). x .marks .master) f;
+      fade = ap (λ (x : Present). x .marks .«sounds_on») f;
       rule =
           λ j n.
           ap (λ (x : Present). getD (x .marks .voices) j nothing .whole) f

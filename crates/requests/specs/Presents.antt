@@ -44,4 +44,5 @@ playerBy present =
 -- demand 3 says it.
 pub record RanksAlone (p : Present) (bytes : List ℕ) (r : Request) (i : ℕ) : Type 0 where
   pub master : playedPresent p bytes r .present .marks .master ≡ p .marks .master
+  pub fade : playedPresent p bytes r .present .marks .«sounds_on» ≡ p .marks .«sounds_on»
   pub rule : (j : ℕ) → (j ≡ i → ⊥) → getD (playedPresent p bytes r .present .marks .voices) j nothing .whole ≡ getD (p .marks .voices) j nothing .whole

@@ -22,6 +22,7 @@ use Rattle.mixer.specs.declared.Outcome.{Outcome}
 use Rattle.mixer.specs.declared.Outcome.the-variants as O
 use Rattle.play.specs.Fades as F
 use Rattle.play.specs.Plays as P
+use Rattle.play.proofs.Laws.{OnOrNot, turned, began, on-or-not}
 use Rattle.polyblep.specs.declared.PolyBlepWaveform.{PolyBlepWaveform}
 use Rattle.start.specs.Starts.{entryStartUnder}
 use Rattle.tone.specs.declared.Waveform.{Waveform}
@@ -97,6 +98,14 @@ faded-heard m bytes id ms adsr = by-count (ltb (m .n) 2)
     by-count : (t : Bool) → let c = cond t (M.unchanged m 5) (F.fadedTo true m bytes ms adsr (foundGiven (m .bank) bytes id)) in HeardBy (c .outcome) m (c .mixer)
     by-count true = λ j e. e
     by-count false = by-entry (foundGiven (m .bank) bytes id)
+
+-- the second fade call does what the first does, or nothing
+pub on-heard : (m : Mixer) (bytes : List ℕ) (id ms : ℕ) (adsr : AdsrSpec) → let c = F.fadedOn m bytes id ms adsr in HeardBy (c .outcome) m (c .mixer)
+on-heard m bytes id ms adsr = by-call (on-or-not m bytes id ms adsr)
+  where
+    by-call : OnOrNot m (F.fadedUnder true m bytes id ms adsr) (F.fadedOn m bytes id ms adsr) → let c = F.fadedOn m bytes id ms adsr in HeardBy (c .outcome) m (c .mixer)
+    by-call (turned n e o) = rw e (λ j h. h)
+    by-call (began d e) = rw e (faded-heard m bytes id ms adsr)
 
 -- ---- tone and PolyBLEP
 pub toned-others : (m : Mixer) (hz ms : ℕ) (waveform : Waveform) → Others 0 m (P.toned m hz ms waveform)

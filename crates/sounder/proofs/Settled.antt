@@ -13,19 +13,23 @@ use Rattle.envelope.specs.Adsrs as A
 use Rattle.envelope.specs.declared.AdsrSpec.{AdsrSpec}
 use Rattle.error.specs.Told.{Told, value, refused, refusal}
 use Rattle.laws.specs.Lists.{All, mapFirst}
+use Rattle.laws.proofs.Bools.{never}
 use Rattle.laws.proofs.Lists.{length-mapFirst, all-replicate}
 use Rattle.marks.specs.Marks.{Valid, beside, settled}
 use Rattle.marks.specs.declared.Present.{Present}
 use Rattle.marks.proofs.Laws.{silent-settled}
 use Rattle.mixer.specs.Mixers as M
+use Rattle.mixer.specs.Mixers.{toldOutcome}
 use Rattle.mixer.specs.declared.Mixer.{Mixer}
 use Rattle.mixer.specs.declared.Outcome.the-variants as O
 use Rattle.mixer.specs.declared.VoiceStealingPolicy.{VoiceStealingPolicy}
 use Rattle.play.specs.Fades as F
+use Rattle.play.proofs.Laws.{OnOrNot, turned, began, on-or-not}
+use Rattle.steps.specs.Steps.{turnedDown}
 use Rattle.voice.specs.Sources.{activeSource}
 use Rattle.voice.specs.Voices.{audible, silentVoice, stoppedVoice}
 use Rattle.voice.specs.declared.Voice.{Voice}
-use Rattle.sounder.specs.Calls.{stopped, bankMarks, banked, faded}
+use Rattle.sounder.specs.Calls.{stopped, bankMarks, banked, faded, fadedOn}
 use Rattle.sounder.specs.Sounders.{changedBox}
 
 abbrev Silent : Voice → Type 0
@@ -72,7 +76,7 @@ stopped-silent m h =
     all-stopped (m .n) (m .voices) rest
 
 pub stopped-settled : (p : Present) → Valid p
-    → stopped p ≡ settled (beside (M.stopped (p .mixer)) (record { voices = p .marks .voices; master = true }))
+    → stopped p ≡ settled (beside (M.stopped (p .mixer)) (record { voices = p .marks .voices; master = true; «sounds_on» = p .marks .«sounds_on» }))
 unfolding M.stopped
 stopped-settled p h =
     let m = p .mixer in
@@ -100,3 +104,12 @@ pub faded-released : (p : Present) (bytes : List ℕ) (id ms : ℕ) (adsr : Adsr
     → F.fadedUnder true (p .mixer) bytes id ms adsr ≡ M.unchanged (F.firstReleased (p .mixer)) n
     → faded p bytes id ms adsr ≡ changedBox (O.Refused (refusal n)) (settled (beside (F.firstReleased (p .mixer)) (p .marks)))
 faded-released p bytes id ms adsr n e = rw e
+
+-- the second fade call: "being turned down changes nothing at all", whatever the number
+pub on-refused : (p : Present) (bytes : List ℕ) (id ms : ℕ) (adsr : AdsrSpec) (n : ℕ) → Valid p → toldOutcome (fadedOn p bytes id ms adsr .outcome) ≡ refused n
+    → fadedOn p bytes id ms adsr .sounder .state ≡ p
+on-refused p bytes id ms adsr n h e = by-call (on-or-not (p .mixer) bytes id ms adsr)
+  where
+    by-call : OnOrNot (p .mixer) (F.fadedUnder true (p .mixer) bytes id ms adsr) (F.fadedOn (p .mixer) bytes id ms adsr) → fadedOn p bytes id ms adsr .sounder .state ≡ p
+    by-call (turned k f o) = rw f (h .quiet)
+    by-call (began d f) = never (ap turnedDown (sym (ap toldOutcome d) ∙ e))

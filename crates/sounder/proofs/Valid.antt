@@ -32,16 +32,16 @@ use Rattle.requests.specs.declared.PresentPlayed.{PresentPlayed}
 use Rattle.voice.specs.Voices.{audible, withPan, silentVoice}
 use Rattle.voice.specs.declared.Voice.{Voice}
 use Rattle.sounder.specs.Sounders.{ValidSounder, ValidSounderChanged, ValidSounderPlayed, boxed, changedBox, playedBox}
-use Rattle.sounder.specs.Calls.{openedTwo, defaultSounder, panned, withMasterGain, bankMarks, banked, fadeMarks}
+use Rattle.sounder.specs.Calls.{openedTwo, defaultSounder, panned, withMasterGain, bankMarks, banked, fadeMarks, fadedBy}
 use Rattle.sounder.specs.declared.SounderChanged.{SounderChanged}
 use Rattle.sounder.proofs.Heard.{Others, HeardBy}
 use Rattle.sounder.proofs.Settled.{silent}
 
 -- ---- opening
-pub made-opened : {x c : Changed} {k : Marks} → Made M.ValidChanged x c → All (λ v. audible v ≡ false) (x .mixer .voices) → k ≡ noMarks true
-    → Made ValidSounderChanged (changedBox (x .outcome) (beside (x .mixer) (noMarks true))) (changedBox (c .outcome) (beside (c .mixer) k))
+pub made-opened : {x c : Changed} {k : Marks} → Made M.ValidChanged x c → All (λ v. audible v ≡ false) (x .mixer .voices) → k ≡ noMarks true false
+    → Made ValidSounderChanged (changedBox (x .outcome) (beside (x .mixer) (noMarks true false))) (changedBox (c .outcome) (beside (c .mixer) k))
 made-opened {c = c} h a e =
-    record { same = rw (e, h .same); valid = record { inside = rw e (none-valid (c .mixer) true (h .valid) (rw (h .same) a)) } }
+    record { same = rw (e, h .same); valid = record { inside = rw e (none-valid (c .mixer) true false (h .valid) (rw (h .same) a)) } }
 
 default-opens : openedTwo defaultDuty .sounder ≡ boxed defaultSounder
 unfolding M.opened
@@ -81,16 +81,16 @@ made-gain {p} gain h g =
     record { same = rw (g .same); valid = record { inside = changed-valid h _ (g .valid) (rw (g .same) refl) } }
 
 -- ---- what silences all
-pub made-stopped : {x m : Mixer} {k : Marks} → Made M.Valid x m → All (λ v. audible v ≡ false) (x .voices) → k ≡ noMarks true
-    → Made ValidSounder (boxed (beside x (noMarks true))) (boxed (beside m k))
-made-stopped {m = m} g a e = record { same = rw (e, g .same); valid = record { inside = rw e (none-valid m true (g .valid) (rw (g .same) a)) } }
+pub made-stopped : (on : Bool) {x m : Mixer} {k : Marks} → Made M.Valid x m → All (λ v. audible v ≡ false) (x .voices) → k ≡ noMarks true on
+    → Made ValidSounder (boxed (beside x (noMarks true on))) (boxed (beside m k))
+made-stopped on {m = m} g a e = record { same = rw (e, g .same); valid = record { inside = rw e (none-valid m true on (g .valid) (rw (g .same) a)) } }
 
 banked-valid : (p : Present) (b : Told SoundBank) → Valid p → M.Valid (M.bankedBy (p .mixer) b .mixer)
     → Valid (beside (M.bankedBy (p .mixer) b .mixer) (bankMarks (M.bankedBy (p .mixer) b .outcome) (p .marks)))
 banked-valid p (refused n) h g = h
 banked-valid p (value b) h g =
     let v = silentVoice (b .«sample_rate_hz») in
-    none-valid _ (p .marks .master) g (all-replicate (λ (w : Voice). audible w ≡ false) 16 v (silent (b .«sample_rate_hz»)))
+    none-valid _ (p .marks .master) (p .marks .«sounds_on») g (all-replicate (λ (w : Voice). audible w ≡ false) 16 v (silent (b .«sample_rate_hz»)))
 
 pub made-banked : {p : Present} (rate count len : ℕ) {c : Changed} {k : Marks} → Valid p → Made M.ValidChanged (M.banked (p .mixer) rate count len) c
     → k ≡ bankMarks (c .outcome) (p .marks) → Made ValidSounderChanged (banked p rate count len) (changedBox (c .outcome) (beside (c .mixer) k))
@@ -103,25 +103,33 @@ made-banked {p} rate count len h g e =
 pub made-played : {x r : PresentPlayed} → Made ValidPresentPlayed x r → Made ValidSounderPlayed (playedBox (x .outcome) (x .present)) (playedBox (r .outcome) (r .present))
 made-played h = record { same = ap (λ (q : PresentPlayed). playedBox (q .outcome) (q .present)) (h .same); valid = record { inside = h .valid } }
 
-fade-length : (o : Outcome) (k : Marks) → length (fadeMarks o k .voices) ≡ length (k .voices)
-fade-length O.Done k = marked-length 1 startedMark k
-fade-length (O.Refused e) k = refl
+-- ---- a fade, of either call
+fade-length : (on : Bool) (o : Outcome) (k : Marks) → length (fadeMarks on o k .voices) ≡ length (k .voices)
+fade-length on O.Done k = marked-length 1 startedMark k
+fade-length on (O.Refused e) k = refl
 
-fade-order : (p : Present) (o : Outcome) (after : Mixer) → Valid p → HeardBy o (p .mixer) after → Ordered (map audible (after .voices)) (fadeMarks o (p .marks) .voices)
-fade-order p O.Done after h sub = begun-order h 1 (omega arith) after sub
-fade-order p (O.Refused e) after h sub = fewer-order (h .order) sub
+fade-order : (on : Bool) (p : Present) (o : Outcome) (after : Mixer) → Valid p → HeardBy o (p .mixer) after
+    → Ordered (map audible (after .voices)) (fadeMarks on o (p .marks) .voices)
+fade-order on p O.Done after h sub = begun-order h 1 (omega arith) after sub
+fade-order on p (O.Refused e) after h sub = fewer-order (h .order) sub
 
-module _ {p : Present} {x c : Changed} {k : Marks} (h : Valid p) (g : Made M.ValidChanged x c) (a : HeardBy (x .outcome) (p .mixer) (x .mixer)) (e : k ≡ fadeMarks (c .outcome) (p .marks)) where
-  pub faded-order : Ordered (map audible (c .mixer .voices)) (k .voices)
-  faded-order = rw e (fade-order p (c .outcome) (c .mixer) h (rw (g .same) a))
+-- what the part gave keeps the order
+pub faded-order : (on : Bool) {p : Present} {x c : Changed} → Valid p → Made M.ValidChanged x c → HeardBy (x .outcome) (p .mixer) (x .mixer)
+    → Ordered (map audible (c .mixer .voices)) (fadeMarks on (c .outcome) (p .marks) .voices)
+faded-order on {p} {c = c} h g a = fade-order on p (c .outcome) (c .mixer) h (rw (g .same) a)
 
-  pub made-faded : {s : Present} → s ≡ settled (beside (c .mixer) k)
-      → Made ValidSounderChanged (changedBox (x .outcome) (settled (beside (x .mixer) (fadeMarks (x .outcome) (p .marks))))) (changedBox (c .outcome) s)
-  made-faded f =
-      record {
-        same = rw (f, e, g .same);
-        valid = record { inside = rw f (settled-valid _ (g .valid) (rw e (fade-length (c .outcome) (p .marks) ∙ h .full)) faded-order) };
-      }
+pub made-settled : (on : Bool) {p : Present} {c : Changed} {k : Marks} {s : Present} → Valid p → M.ValidChanged c
+    → Ordered (map audible (c .mixer .voices)) (fadeMarks on (c .outcome) (p .marks) .voices) → k ≡ fadeMarks on (c .outcome) (p .marks) → s ≡ settled (beside (c .mixer) k)
+    → Made ValidSounderChanged (fadedBy on p c) (changedBox (c .outcome) s)
+made-settled on {p} {c} h v o e f =
+    record {
+      same = rw (f, e);
+      valid = record { inside = rw (f, e) (settled-valid _ v (fade-length on (c .outcome) (p .marks) ∙ h .full) o) };
+    }
+
+pub made-faded : (on : Bool) (p : Present) {x c : Changed} {r : SounderChanged} → Made M.ValidChanged x c → Made ValidSounderChanged (fadedBy on p c) r
+    → Made ValidSounderChanged (fadedBy on p x) r
+made-faded on p g h = rw (← g .same) h
 
 -- voice 0 started, in a state that a step of the parts gave
 module _ {p : Present} {x m : Mixer} {k : Marks} (h : Valid p) (g : Made M.Valid x m) (a : Others 0 (p .mixer) x) (e : k ≡ markedAt 0 startedMark (p .marks)) where

@@ -4,8 +4,10 @@
 --     Frames     a frame, and a buffer of frames
 --     Requests   demand 3: a list of play requests
 --     Steps      the calls in any order: how long a fade takes among them
+--     Sounding   after the end of a fade of the second call the sound goes on
 pub mod Sounders
 pub mod Calls
 pub mod Frames
 pub mod Requests
 pub mod Steps
+pub mod Sounding

@@ -52,7 +52,7 @@ fn bank_marks(outcome: Outcome, marks: Marks) -> Marks
     ensures { λ r. ⌜ r ≡ bankMarks outcome marks ⌝ }
 {
     match outcome {
-        Outcome::Done => Marks::none(marks.master),
+        Outcome::Done => Marks::none(marks.master, marks.sounds_on),
         Outcome::Refused(_) => marks,
     }
 }
@@ -77,7 +77,7 @@ impl Sounder {
         let mixer = c.mixer;
         let state = Present {
             mixer,
-            marks: Marks::none(true),
+            marks: Marks::none(true, false),
         };
         SounderChanged {
             outcome,
@@ -181,8 +181,9 @@ impl Sounder {
         ensures { λ r. ⌜ Made ValidSounder (boxed (stopped (self .state))) r ⌝ }
     {
         let m = self.state.mixer;
+        let old = self.state.marks;
         let mixer = m.stop_all();
-        let marks = Marks::none(true);
+        let marks = Marks::none(true, old.sounds_on);
         let state = Present { mixer, marks };
         Sounder { state }
     }

@@ -1,24 +1,35 @@
 // The calls that start voices, and what then stands beside those.
 ghost use mathlib.Core.Path.{_≡_};
+ghost use mathlib.Core.List.{map};
 ghost use Rattle.laws.specs.Made.{Made};
+ghost use Rattle.marks.specs.Marks.{Ordered};
+ghost use Rattle.mixer.specs.Mixers as M;
+ghost use Rattle.voice.specs.Voices.{audible};
 ghost use Rattle.sounder.specs.Sounders.{ValidSounder, ValidSounderChanged, ValidSounderPlayed, boxed, requestOf};
-ghost use Rattle.sounder.specs.Calls.{played, fadeMarks, faded, toned, polyBleped};
+ghost use Rattle.sounder.specs.Calls.{played, fadeMarks, fadedBy, faded, fadedOn, toned, polyBleped};
 use super::Sounder;
 use super::SounderChanged;
 use super::SounderPlayed;
 use envelope::AdsrSpec;
 use marks::Marks;
 use marks::Present;
+use mixer::Changed;
 use mixer::Outcome;
 use polyblep::PolyBlepWaveform;
 use start::Request;
 use tone::Waveform;
 
-fn fade_marks(outcome: Outcome, marks: Marks) -> Marks
-    ensures { λ r. ⌜ r ≡ fadeMarks outcome marks ⌝ }
+fn fade_marks(outcome: Outcome, marks: Marks, sounds_on: bool) -> Marks
+    ensures { λ r. ⌜ r ≡ fadeMarks «sounds_on» outcome marks ⌝ }
 {
     match outcome {
-        Outcome::Done => marks.started(1),
+        Outcome::Done => {
+            let started = marks.started(1);
+            Marks {
+                sounds_on,
+                ..started
+            }
+        }
         Outcome::Refused(_) => marks,
     }
 }
@@ -55,7 +66,26 @@ impl Sounder {
         }
     }
 
-    // A fade from voice 0 to the entry. Voice 0 is released before the entry start, so that a refusal there leaves it released.
+    // What a fade's call made of the mixer, in its box.
+    fn faded(self, c: Changed, sounds_on: bool) -> SounderChanged
+        requires { ⌜ ValidSounder self ⌝ }
+        requires { ⌜ M.ValidChanged c × Ordered (map audible (c .mixer .voices)) (fadeMarks «sounds_on» (c .outcome) (self .state .marks) .voices) ⌝ }
+        ensures { λ r. ⌜ Made ValidSounderChanged (fadedBy «sounds_on» (self .state) c) r ⌝ }
+    {
+        let old = self.state.marks;
+        let outcome = c.outcome;
+        let mixer = c.mixer;
+        let marks = fade_marks(outcome, old, sounds_on);
+        let begun = Present { mixer, marks };
+        let state = begun.settled();
+        SounderChanged {
+            outcome,
+            sounder: Sounder { state },
+        }
+    }
+
+    // A fade from voice 0 to the entry, at whose end voice 0 is silent. Voice 0 is released before the entry start, so that a refusal there leaves it
+    // released.
     // Where it is accepted, it takes 255 / step frames, rounded up, step being config::crossfade_step_q8 of the duration and the box's rate:
     // frames from this call on, mono or stereo in any order, also through buffer calls. After fewer of them the fade is running; the frame of
     // that number is the one in which voice 0 takes over, and after it the fade is over. Other calls between the frames, refused ones among
@@ -72,17 +102,26 @@ impl Sounder {
         ensures { λ r. ⌜ Made ValidSounderChanged (faded (self .state) (now (bytes .entry)) «effect_id» «duration_ms» adsr) r ⌝ }
     {
         let m = self.state.mixer;
-        let old = self.state.marks;
         let c = play::fades::crossfade_to(m, bytes, effect_id, duration_ms, adsr, true);
-        let outcome = c.outcome;
-        let mixer = c.mixer;
-        let marks = fade_marks(outcome, old);
-        let begun = Present { mixer, marks };
-        let state = begun.settled();
-        SounderChanged {
-            outcome,
-            sounder: Sounder { state },
-        }
+        self.faded(c, false)
+    }
+
+    // A fade from voice 0 to the entry whose sound goes on: at its end voice 0 takes voice 1's envelope too, as it is before that frame's tick, and its
+    // samples from there on are those that voice 1's would have been (specs/Sounding.antt SoundsOn). Voice 1 is started before voice 0 is released, so
+    // that a refusal changes nothing at all. It takes as many frames as the other fade.
+    pub fn crossfade_sounding_on(
+        self,
+        bytes: &[u8],
+        effect_id: u16,
+        duration_ms: u16,
+        adsr: AdsrSpec,
+    ) -> SounderChanged
+        requires { ⌜ ValidSounder self ⌝ }
+        ensures { λ r. ⌜ Made ValidSounderChanged (fadedOn (self .state) (now (bytes .entry)) «effect_id» «duration_ms» adsr) r ⌝ }
+    {
+        let m = self.state.mixer;
+        let c = play::fades::crossfade_sounding_on(m, bytes, effect_id, duration_ms, adsr);
+        self.faded(c, true)
     }
 
     pub fn play_tone(self, freq_hz: u32, duration_ms: u16, waveform: Waveform) -> Sounder

@@ -86,7 +86,7 @@ module _ {State : Type 0} (b : Stepper State) where
     pub advances : (f : Frame) (s : State) → SameFade (b .mixer (b .framed f s)) (advanced (b .mixer s))
     pub calls : (c : Call) (s : State) → SameFade (b .mixer (b .called c s)) (calledMixer c (b .mixer s))
 
-  -- What document 02 promises of a fade that the box accepts: from its call on it takes its count of frames, whatever steps come.
-  pub record FadeTakes (s : State) (bytes : List ℕ) (id ms : ℕ) (adsr : AdsrSpec) : Type 0 where
-    pub takes : (ss : List (Step Frame Call)) → unbroken box ss (b .called (fade bytes id ms adsr) s) ≡ true
-        → Lasts box (fadeCount (fadeStep ms (b .mixer s .config .«sample_rate_hz»))) (b .called (fade bytes id ms adsr) s) ss
+-- What document 02 promises of a fade that a box accepts, which may have other calls too: from the fade's call on, which made `begun` of s, it takes
+-- its count of frames, whatever steps come.
+pub record FadeTakes {State Calls : Type 0} (b : Box State Frame Calls) (s begun : State) (ms : ℕ) : Type 0 where
+  pub takes : (ss : List (Step Frame Calls)) → unbroken b ss begun ≡ true → Lasts b (fadeCount (fadeStep ms (b .mixer s .config .«sample_rate_hz»))) begun ss

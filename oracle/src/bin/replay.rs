@@ -1,5 +1,5 @@
 //! Reads a script on standard input and prints the Rust original's answers: the records of the replay format, our own 50 to
-//! 6A, and those of document 02 (docs/REPLAY.md): 70, 7A, 82 and 86 by the original with its replacements, 79 by the original, and 80, 81 and
+//! 6A, and those of document 02 (docs/REPLAY.md): 70, 73, 7A, 82 and 86 by the original with its replacements, 79 by the original, and 80, 81 and
 //! 83 to 85, which the original has not. A bad line prints FFFF and ends the run.
 
 #[path = "replay/answers.rs"]

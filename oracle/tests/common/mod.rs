@@ -22,9 +22,11 @@ pub fn answers(script: &[&str]) -> Vec<String> {
         .spawn()
         .unwrap();
     let mut input = replay.stdin.take().unwrap();
-    input.write_all(script.join("\n").as_bytes()).unwrap();
-    drop(input);
+    let script = script.join("\n");
+    // Beside the reading: the program stops reading where its answers are not taken.
+    let written = std::thread::spawn(move || input.write_all(script.as_bytes()));
     let output = replay.wait_with_output().unwrap();
+    written.join().unwrap().unwrap();
     assert!(output.status.success());
     let text = String::from_utf8(output.stdout).unwrap();
     text.lines().map(String::from).collect()

@@ -10,7 +10,7 @@ use Rattle.block.proofs.over_end.Statement.{statement}
 use Rattle.block.proofs.over_end.Tie as tie
 
 abbrev start : tie.After-marks-ended → tie.Start
-start x = x .before .before
+start x = x .before .before .before
 
 panned-requires : tie.Need-panned-requires
 panned-requires c κs =
@@ -31,7 +31,7 @@ panned-requires-2 c κs =
     let x = c .before .before .before in
     let p = start (x .before .before .before .before) .pre in
     let e = x .panned .ensures in
-    let quiet : c .before .before .ended .result .«crossfade_active» ≡ false = rw (d .same) (ended-quiet (x .panned .result)) in
+    let quiet : c .before .before .ended .result .«crossfade_active» ≡ false = rw (d .same) (ended-quiet _ (x .panned .result)) in
     (d .valid, omega (arith, p .1, p .5), e .left .size ∙ p .2, e .right .size ∙ p .3, λ a z. never (sym quiet ∙ a))
 
 returns : tie.Need-returns
@@ -42,7 +42,7 @@ returns c =
     let s = start y in
     let m = s .args .p .mixer in
     let p = s .pre in
-    let quiet : c .before .before .before .ended .result .«crossfade_active» ≡ false = rw (d .same) (ended-quiet (x .panned .result)) in
+    let quiet : c .before .before .before .ended .result .«crossfade_active» ≡ false = rw (d .same) (ended-quiet _ (x .panned .result)) in
     rw (x .before .before .before .if1 .taken)
     (stretch-two (rw (x .panned .ensures .mixer .same) (next-ends m _ _ (p .0) (p .4) true (p .5))) (rw (d .same, y .marks-ended .ensures)) (p .5)
     (part-stretch (s .args .p .marks) m _ (slow-part m _ _ (p .0) (p .4)) (x .panned .ensures))
@@ -66,7 +66,7 @@ plain-requires c κs =
     let d = c .before .ended2 .ensures in
     let x = c .before .before in
     let p = start (x .before .before .before) .pre in
-    (d .valid, rw (d .same) (ended-quiet (x .fading .result)), omega (arith, p .1, p .5), x .fading .ensures .cells .size ∙ p .2)
+    (d .valid, rw (d .same) (ended-quiet _ (x .fading .result)), omega (arith, p .1, p .5), x .fading .ensures .cells .size ∙ p .2)
 
 returns-2 : tie.Need-returns-2
 returns-2 c =
@@ -76,7 +76,7 @@ returns-2 c =
     let s = start y in
     let m = s .args .p .mixer in
     let p = s .pre in
-    let quiet : c .before .before .ended2 .result .«crossfade_active» ≡ false = rw (d .same) (ended-quiet (x .fading .result)) in
+    let quiet : c .before .before .ended2 .result .«crossfade_active» ≡ false = rw (d .same) (ended-quiet _ (x .fading .result)) in
     rw (x .before .before .if1 .left)
     (stretch-two (rw (x .fading .ensures .mixer .same) (next-ends m _ _ (p .0) (p .4) false (p .5))) (rw (d .same, y .marks-ended .ensures)) (p .5)
     (part-stretch (s .args .p .marks) m _ (slow-part m _ _ (p .0) (p .4)) (mono-part _ (x .fading .ensures)))

@@ -59,7 +59,43 @@ returns-11 c = whole (short (c .before .before)) (rw (sym (c .before .before .by
 
 returns-12 : tie.Need-returns-12
 unfolding lineText
-returns-12 c = let r = c .before .match .rest in whole (short (c .before .before)) (rw (sym (c .before .before .byte-at .ensures), ne-eqb _ _ (r .0 .0 .0 .0 .0 .0 .0 .0 .0 .0 .1), ne-eqb _ _ (r .0 .0 .0 .0 .0 .0 .0 .0 .0 .1), ne-eqb _ _ (r .0 .0 .0 .0 .0 .0 .0 .0 .1), ne-eqb _ _ (r .0 .0 .0 .0 .0 .0 .0 .1), ne-eqb _ _ (r .0 .0 .0 .0 .0 .0 .1), ne-eqb _ _ (r .0 .0 .0 .0 .0 .1), ne-eqb _ _ (r .0 .0 .0 .0 .1), ne-eqb _ _ (r .0 .0 .0 .1), ne-eqb _ _ (r .0 .0 .1), ne-eqb _ _ (r .0 .1), ne-eqb _ _ (r .1)) (c .empty .ensures))
+returns-12 c = whole (short (c .before .before)) (rw (sym (c .before .before .byte-at .ensures), c .before .match .keys12) (c .faded-on .ensures))
+
+returns-13 : tie.Need-returns-13
+unfolding lineText
+returns-13 c =
+    let r = c .before .match .rest in
+    whole (short (c .before .before))
+    (rw (sym (c .before .before .byte-at .ensures), ne-eqb _ _ (r .0 .0 .0 .0 .0 .0 .0 .0 .0 .0 .0 .1), ne-eqb _ _ (r .0 .0 .0 .0 .0 .0 .0 .0 .0 .0 .1), ne-eqb _ _ (r .0 .0 .0 .0 .0 .0 .0 .0 .0 .1), ne-eqb _ _ (r .0 .0 .0 .0 .0 .0 .0 .0 .1), ne-eqb _ _ (r .0 .0 .0 .0 .0 .0 .0 .1), ne-eqb _ _ (r .0 .0 .0 .0 .0 .0 .1), ne-eqb _ _ (r .0 .0 .0 .0 .0 .1), ne-eqb _ _ (r .0 .0 .0 .0 .1), ne-eqb _ _ (r .0 .0 .0 .1), ne-eqb _ _ (r .0 .0 .1), ne-eqb _ _ (r .0 .1), ne-eqb _ _ (r .1)) (c .empty .ensures))
 
 pub tell-spec : {M : Type 1} → statement M
-tell-spec = tie.close (tie.spec (λ c κs. search needs) (λ c κs. search needs) (λ c κs. search needs) (λ c κs. search needs) (λ c κs. search needs) (λ c κs. search needs) (λ c κs. search needs) (λ c κs. search needs) (λ c κs. search needs) (λ c κs. search needs) (λ c κs. search needs) (λ c κs. search needs) (λ c κs. search needs) returns returns-2 returns-3 returns-4 returns-5 returns-6 returns-7 returns-8 returns-9 returns-10 returns-11 returns-12)
+tell-spec =
+    tie.close
+    (tie.spec
+    (λ c κs. search needs)
+    (λ c κs. search needs)
+    (λ c κs. search needs)
+    (λ c κs. search needs)
+    (λ c κs. search needs)
+    (λ c κs. search needs)
+    (λ c κs. search needs)
+    (λ c κs. search needs)
+    (λ c κs. search needs)
+    (λ c κs. search needs)
+    (λ c κs. search needs)
+    (λ c κs. search needs)
+    (λ c κs. search needs)
+    (λ c κs. search needs)
+    returns
+    returns-2
+    returns-3
+    returns-4
+    returns-5
+    returns-6
+    returns-7
+    returns-8
+    returns-9
+    returns-10
+    returns-11
+    returns-12
+    returns-13)

@@ -40,20 +40,28 @@ returns-8 c = rw (c .before .match .keys8) (record { same = rw (c .byte-at .ensu
 
 returns-9 : tie.Need-returns-9
 unfolding laterCall
-returns-9 c = rw (c .before .match .keys9) (c .fade-left-call .ensures)
+returns-9 c = rw (c .before .match .keys9) (c .fade-on-call .ensures)
 
 returns-10 : tie.Need-returns-10
 unfolding laterCall
-returns-10 c = rw (c .before .match .keys10) (c .ranks-call .ensures)
+returns-10 c = rw (c .before .match .keys10) (c .fade-left-call .ensures)
 
 returns-11 : tie.Need-returns-11
 unfolding laterCall
-returns-11 c = let r = c .match .rest in rw (ne-eqb _ _ (r .0 .0 .0 .0 .0 .0 .0 .0 .0 .1), ne-eqb _ _ (r .0 .0 .0 .0 .0 .0 .0 .0 .1), ne-eqb _ _ (r .0 .0 .0 .0 .0 .0 .0 .1), ne-eqb _ _ (r .0 .0 .0 .0 .0 .0 .1), ne-eqb _ _ (r .0 .0 .0 .0 .0 .1), ne-eqb _ _ (r .0 .0 .0 .0 .1), ne-eqb _ _ (r .0 .0 .0 .1), ne-eqb _ _ (r .0 .0 .1), ne-eqb _ _ (r .0 .1), ne-eqb _ _ (r .1)) (record { same = refl; valid = c .before .before .before .pre })
+returns-11 c = rw (c .before .match .keys11) (c .ranks-call .ensures)
+
+returns-12 : tie.Need-returns-12
+unfolding laterCall
+returns-12 c =
+    let r = c .match .rest in
+    rw (ne-eqb _ _ (r .0 .0 .0 .0 .0 .0 .0 .0 .0 .0 .1), ne-eqb _ _ (r .0 .0 .0 .0 .0 .0 .0 .0 .0 .1), ne-eqb _ _ (r .0 .0 .0 .0 .0 .0 .0 .0 .1), ne-eqb _ _ (r .0 .0 .0 .0 .0 .0 .0 .1), ne-eqb _ _ (r .0 .0 .0 .0 .0 .0 .1), ne-eqb _ _ (r .0 .0 .0 .0 .0 .1), ne-eqb _ _ (r .0 .0 .0 .0 .1), ne-eqb _ _ (r .0 .0 .0 .1), ne-eqb _ _ (r .0 .0 .1), ne-eqb _ _ (r .0 .1), ne-eqb _ _ (r .1))
+    (record { same = refl; valid = c .before .before .before .pre })
 
 pub later-call-spec : {M : Type 1} → statement M
 later-call-spec =
     tie.close
     (tie.spec
+    (λ c κs. search needs)
     (λ c κs. search needs)
     (λ c κs. search needs)
     (λ c κs. search needs)
@@ -72,4 +80,5 @@ later-call-spec =
     returns-8
     returns-9
     returns-10
-    returns-11)
+    returns-11
+    returns-12)

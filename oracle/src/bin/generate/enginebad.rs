@@ -103,7 +103,7 @@ fn good(draw: &mut Draw, code: u8) -> Line {
             return lend(&bytes);
         }
         0x13 => vec![id, attack, decay, sustain, release, byte],
-        0x14 => vec![id, ms, attack, decay, sustain, release],
+        0x14 | 0x73 => vec![id, ms, attack, decay, sustain, release],
         0x15 => vec![hz, ms, u8(draw.below(3) as u8)],
         0x16 => vec![hz, ms, u8(draw.below(4) as u8)],
         0x17 => vec![u8(draw.below(4) as u8), byte],

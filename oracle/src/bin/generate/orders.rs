@@ -8,17 +8,19 @@ use crate::script::{Field, Script, lend, u8, u16, u32};
 const ENDLESS: u16 = 1;
 const SHORT: u16 = 2;
 
-/// By the first call for frames both fades have ended; voice 0 then has the rest of the tone, which by the second has ended too.
+/// By the first call for frames every fade has ended; voice 0 then has the rest of the tone, which by the second has ended too.
 const FRAMES: u16 = 3;
 
 type Call = fn(&mut Script);
 
-const CALLS: [Call; 8] = [
+const CALLS: [Call; 10] = [
     |script| play(script, ENDLESS, 1),
     |script| play(script, SHORT, 2),
     |script| script.record(0x15, &[u32(440), u16(0), u8(0)]),
-    |script| fade(script, ENDLESS, 0),
-    |script| fade(script, SHORT, FRAMES),
+    |script| fade(script, 0x14, ENDLESS, 0),
+    |script| fade(script, 0x14, SHORT, FRAMES),
+    |script| fade(script, 0x73, ENDLESS, 0),
+    |script| fade(script, 0x73, SHORT, FRAMES),
     |script| script.record(0x21, &[u16(FRAMES)]),
     |script| script.record(0x19, &[]),
     set,
@@ -64,6 +66,6 @@ fn play(script: &mut Script, id: u16, priority: u8) {
     script.record(0x13, &[&[u16(id)], &ENVELOPE[..], &[u8(priority)]].concat());
 }
 
-fn fade(script: &mut Script, id: u16, ms: u16) {
-    script.record(0x14, &[&[u16(id), u16(ms)], &ENVELOPE[..]].concat());
+fn fade(script: &mut Script, code: u8, id: u16, ms: u16) {
+    script.record(code, &[&[u16(id), u16(ms)], &ENVELOPE[..]].concat());
 }

@@ -104,20 +104,28 @@ fn look_up(script: &mut Script, (offset, length): Place) {
     script.record(0x1B, &[u32(offset), u16(length)]);
 }
 
-/// A tone on voice 0, then a play request and a fade: the fade's release of voice 0 is seen whether or not it is refused.
+/// A tone on voice 0, then a play request and a fade of each call: the old fade's release of voice 0 is seen whether or not it is refused.
 fn start(script: &mut Script, id: u16) {
     script.record(0x19, &[]);
     script.record(0x15, &[u32(440), u16(0), u8(1)]);
     play(script, id);
-    fade(script, id);
+    fades(script, id);
 }
 
 fn play(script: &mut Script, id: u16) {
     script.record(0x13, &[&[u16(id)], &ENVELOPE[..], &[u8(9)]].concat());
 }
 
-fn fade(script: &mut Script, id: u16) {
-    script.record(0x14, &[&[u16(id), u16(20)], &ENVELOPE[..]].concat());
+/// The one that keeps sounding first: refused it changes nothing.
+fn fades(script: &mut Script, id: u16) {
+    let codes: &[u8] = if script.is_present() {
+        &[0x73, 0x14]
+    } else {
+        &[0x14]
+    };
+    for code in codes {
+        script.record(*code, &[&[u16(id), u16(20)], &ENVELOPE[..]].concat());
+    }
 }
 
 /// The other refusals that come before an entry start: 8, and 7 and 9 for an entry whose payload is beyond the bank too.
@@ -146,6 +154,6 @@ fn before_a_start(script: &mut Script, count: usize) {
 fn both_starts(script: &mut Script, id: u16) {
     script.record(0x15, &[u32(440), u16(0), u8(1)]);
     play(script, id);
-    fade(script, id);
+    fades(script, id);
     script.record(0x30, &[]);
 }

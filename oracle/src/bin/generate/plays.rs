@@ -378,7 +378,9 @@ impl<'a> Plays<'a> {
         let ms = self.draw.pick(&[0, 1, short, short, 300, any]);
         let mut fields = vec![u16(self.id()), u16(ms)];
         fields.extend(self.envelope());
-        self.script.record(0x14, &fields);
+        let sounding_on = self.script.is_present() && self.draw.one_in(2);
+        let code = if sounding_on { 0x73 } else { 0x14 };
+        self.script.record(code, &fields);
     }
 
     fn tone(&mut self) {

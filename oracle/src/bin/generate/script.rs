@@ -88,7 +88,7 @@ pub fn lend(bytes: &[u8]) -> Line {
 }
 
 /// The records that a box of the present rules alone has.
-pub const PRESENT_ONLY: [u8; 1] = [0x7A];
+pub const PRESENT_ONLY: [u8; 2] = [0x73, 0x7A];
 
 /// The whole state of a box: the dump, and what the present rules add to it.
 pub const WHOLE_STATE: &[u8] = &[0x30, 0x7A];
@@ -130,7 +130,7 @@ impl Script {
         self.line(line);
         for code in self.after_each {
             let after = record(*code, &[]);
-            let known = self.open == 0x70 || !PRESENT_ONLY.contains(code);
+            let known = self.is_present() || !PRESENT_ONLY.contains(code);
             if known && after != line {
                 self.line(&after);
             }
@@ -150,6 +150,11 @@ impl Script {
             self.open = code;
         }
         self.add(&record(code, fields));
+    }
+
+    /// Whether the open box is one of the present rules.
+    pub fn is_present(&self) -> bool {
+        self.open == 0x70
     }
 
     pub fn finish(mut self) {

@@ -14,7 +14,7 @@ use crate::numbers::{
 /// An engine between two calls.
 pub type Engine<const N: usize> = AudioEngine<'static, N>;
 
-fn number(error: AudioError) -> i64 {
+pub fn number(error: AudioError) -> i64 {
     match error {
         AudioError::VoiceBusy => VOICE_BUSY,
         AudioError::NoBank => NO_BANK,
@@ -63,7 +63,7 @@ pub fn payload<'a, const N: usize>(
 }
 
 /// What the port adds to a start, where no refusal of the original's comes before it: 7, or 10.
-fn added<const N: usize>(engine: &Engine<N>, lent: &[u8], id: u16) -> Option<i64> {
+pub fn added<const N: usize>(engine: &Engine<N>, lent: &[u8], id: u16) -> Option<i64> {
     let bank = match bank(engine, lent) {
         Ok(bank) => bank,
         Err(NO_BANK) => return None,

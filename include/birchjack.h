@@ -39,6 +39,9 @@ enum birchjack_refusal {
     BIRCHJACK_SHORT_BUFFER = 14,       /* a buffer shorter than what is written to it */
     BIRCHJACK_BAD_OFFSET = 15,         /* a payload's offset is past the end of the bank */
     BIRCHJACK_BAD_LENGTH = 16,         /* a payload runs past the end of the bank */
+    BIRCHJACK_LINE_FULL = 17,          /* 32 requests are waiting */
+    BIRCHJACK_LABEL_WAITING = 18,      /* a request is waiting under the label already */
+    BIRCHJACK_NOT_WAITING = 19,        /* no request is waiting under the label */
     BIRCHJACK_NOT_COUNTED = 22         /* a site past what is counted: voices, priorities, requests or priority */
 };
 
@@ -164,10 +167,10 @@ uint8_t birchjack_duty(size_t n, bool free_only, uint8_t master_gain_q8, uint16_
                        size_t requests_len, uint8_t polyblep_waveform, uint32_t polyblep_hz, uint16_t polyblep_ms, uint16_t *out,
                        size_t out_len);
 
-/* ---- a whole replay script (docs/REPLAY.md), which drives one box at a time through any of its calls: record 70 opens one of the present
- * rules, record 10 document 01's. As much as there is room for is written, and the length of all of it is the answer, as with snprintf: call
- * once with out_len 0 to ask for the length. *good says whether no line is bad; a bad line ends the run. These two need some 400 KB of
- * stack. */
+/* ---- a whole replay script (docs/REPLAY.md), which drives one box at a time through any of its calls, fades of both kinds among them (14, and
+ * 73 after which the sound goes on): record 70 opens one of the present rules, record 10 document 01's. As much as there is room for is written,
+ * and the length of all of it is the answer, as with snprintf: call once with out_len 0 to ask for the length. *good says whether no line is bad;
+ * a bad line ends the run. These two need some 400 KB of stack. */
 
 /* The answers of the lines, in bytes. */
 size_t birchjack_answers(const uint8_t *script, size_t script_len, uint8_t *out, size_t out_len, bool *good);

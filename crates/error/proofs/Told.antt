@@ -25,9 +25,12 @@ refusal-number E.BadEntries = refl
 refusal-number E.ShortBuffer = refl
 refusal-number E.BadOffset = refl
 refusal-number E.BadLength = refl
+refusal-number E.LineFull = refl
+refusal-number E.LabelWaiting = refl
+refusal-number E.NotWaiting = refl
 refusal-number E.NotCounted = refl
 
-pub number-refusal : (n : ℕ) → 1 ≤ n → n ≤ 16 → numberOf (refusal n) ≡ n
+pub number-refusal : (n : ℕ) → 1 ≤ n → n ≤ 19 → numberOf (refusal n) ≡ n
 number-refusal zero h k = absurd (lt-irrefl 0 (omega arith))
 number-refusal (suc zero) h k = refl
 number-refusal (suc (suc zero)) h k = refl
@@ -45,7 +48,10 @@ number-refusal (suc (suc (suc (suc (suc (suc (suc (suc (suc (suc (suc (suc (suc 
 number-refusal (suc (suc (suc (suc (suc (suc (suc (suc (suc (suc (suc (suc (suc (suc zero)))))))))))))) h k = refl
 number-refusal (suc (suc (suc (suc (suc (suc (suc (suc (suc (suc (suc (suc (suc (suc (suc zero))))))))))))))) h k = refl
 number-refusal (suc (suc (suc (suc (suc (suc (suc (suc (suc (suc (suc (suc (suc (suc (suc (suc zero)))))))))))))))) h k = refl
-number-refusal (suc (suc (suc (suc (suc (suc (suc (suc (suc (suc (suc (suc (suc (suc (suc (suc (suc n))))))))))))))))) h k = absurd (lt-irrefl 0 (omega arith))
+number-refusal (suc (suc (suc (suc (suc (suc (suc (suc (suc (suc (suc (suc (suc (suc (suc (suc (suc zero))))))))))))))))) h k = refl
+number-refusal (suc (suc (suc (suc (suc (suc (suc (suc (suc (suc (suc (suc (suc (suc (suc (suc (suc (suc zero)))))))))))))))))) h k = refl
+number-refusal (suc (suc (suc (suc (suc (suc (suc (suc (suc (suc (suc (suc (suc (suc (suc (suc (suc (suc (suc zero))))))))))))))))))) h k = refl
+number-refusal (suc (suc (suc (suc (suc (suc (suc (suc (suc (suc (suc (suc (suc (suc (suc (suc (suc (suc (suc (suc n)))))))))))))))))))) h k = absurd (lt-irrefl 0 (omega arith))
 
 -- an answer that tells a valid t
 pub answered : {A R : Type 0} {told : R → Told A} {Valid : A → Type 0} {t : Told A} {r : R} → told r ≡ t → ValidTold Valid t → Answered told Valid t r

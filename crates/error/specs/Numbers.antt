@@ -21,4 +21,7 @@ numberOf E.BadEntries = 13
 numberOf E.ShortBuffer = 14
 numberOf E.BadOffset = 15
 numberOf E.BadLength = 16
+numberOf E.LineFull = 17
+numberOf E.LabelWaiting = 18
+numberOf E.NotWaiting = 19
 numberOf E.NotCounted = 22

@@ -50,7 +50,10 @@ refusal n =
     (cond (eqb n 13) E.BadEntries
     (cond (eqb n 14) E.ShortBuffer
     (cond (eqb n 15) E.BadOffset
-    (cond (eqb n 16) E.BadLength E.NotCounted)))))))))))))))
+    (cond (eqb n 16) E.BadLength
+    (cond (eqb n 17) E.LineFull
+    (cond (eqb n 18) E.LabelWaiting
+    (cond (eqb n 19) E.NotWaiting E.NotCounted))))))))))))))))))
 
 -- what holds of a value; of a refusal there is nothing to hold
 abbrev pub ValidTold : {A : Type 0} → (A → Type 0) → Told A → Type 0

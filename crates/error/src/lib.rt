@@ -20,6 +20,9 @@ pub enum AudioError {
     ShortBuffer,
     BadOffset,
     BadLength,
+    LineFull,
+    LabelWaiting,
+    NotWaiting,
     NotCounted,
 }
 
@@ -44,6 +47,9 @@ impl AudioError {
             AudioError::ShortBuffer => 14,
             AudioError::BadOffset => 15,
             AudioError::BadLength => 16,
+            AudioError::LineFull => 17,
+            AudioError::LabelWaiting => 18,
+            AudioError::NotWaiting => 19,
             AudioError::NotCounted => 22,
         }
     }

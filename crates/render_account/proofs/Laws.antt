@@ -23,7 +23,7 @@ use Rattle.render_account.specs.Account as T
 
 added-within : (n : ℕ) → length (T.addedText n) ≤ 55
 unfolding T.addedText
-added-within n = search (words-within, leb-true) depth 10
+added-within n = search (words-within, leb-true) depth 13
 
 why-within : (n : ℕ) → length (T.whyText n) ≤ 55
 unfolding T.whyText

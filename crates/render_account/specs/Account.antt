@@ -23,8 +23,11 @@ addedText n =
     (cond (eqb n 14) (words "the buffer is too short")
     (cond (eqb n 15) (words "its offset is past the end of the bank")
     (cond (eqb n 16) (words "it runs past the end of the bank")
+    (cond (eqb n 17) (words "32 requests are waiting")
+    (cond (eqb n 18) (words "its label is waiting already")
+    (cond (eqb n 19) (words "no request is waiting under this label")
     (cond (eqb n 22) (words "the site is past what is counted")
-    (words "a number without words"))))))
+    (words "a number without words")))))))))
 
 -- document 01's numbers, in words
 unfoldable pub whyText : ℕ → List ℕ

@@ -21,6 +21,9 @@ fn why_added(t: Text, number: u8) -> Text
         14 => say(t, b"the buffer is too short"),
         15 => say(t, b"its offset is past the end of the bank"),
         16 => say(t, b"it runs past the end of the bank"),
+        17 => say(t, b"32 requests are waiting"),
+        18 => say(t, b"its label is waiting already"),
+        19 => say(t, b"no request is waiting under this label"),
         22 => say(t, b"the site is past what is counted"),
         _ => say(t, b"a number without words"),
     }

@@ -22,12 +22,15 @@ pub enum Refusal {
     ShortBuffer = 14,
     BadOffset = 15,
     BadLength = 16,
+    LineFull = 17,
+    LabelWaiting = 18,
+    NotWaiting = 19,
     NotCounted = 22,
 }
 
 impl Refusal {
     /// Every refusal, in the order of its number.
-    pub const ALL: [Refusal; 17] = [
+    pub const ALL: [Refusal; 20] = [
         Refusal::VoiceCount,
         Refusal::BadRate,
         Refusal::BadPeriod,
@@ -44,6 +47,9 @@ impl Refusal {
         Refusal::ShortBuffer,
         Refusal::BadOffset,
         Refusal::BadLength,
+        Refusal::LineFull,
+        Refusal::LabelWaiting,
+        Refusal::NotWaiting,
         Refusal::NotCounted,
     ];
 
@@ -87,6 +93,9 @@ impl fmt::Display for Refusal {
             Refusal::ShortBuffer => "a buffer shorter than what is written to it",
             Refusal::BadOffset => "a payload's offset is past the end of the bank",
             Refusal::BadLength => "a payload runs past the end of the bank",
+            Refusal::LineFull => "32 requests are waiting",
+            Refusal::LabelWaiting => "a request is waiting under the label already",
+            Refusal::NotWaiting => "no request is waiting under the label",
             Refusal::NotCounted => "more than 4 priorities, 8 requests or 16 voices, or a priority that is not among them",
         })
     }

@@ -580,10 +580,10 @@ fn players_that_are_refused() {
     assert_eq!(duties, [0x55; 3]);
 }
 
-/// 17 to 21 belong to requests that have not landed.
+/// 20 and 21 belong to a request that has not landed.
 #[test]
 fn refusals_have_the_papers_numbers() {
     let numbers: Vec<u8> = Refusal::ALL.map(Refusal::number).to_vec();
-    assert_eq!(numbers, (1..=16).chain([22]).collect::<Vec<u8>>());
+    assert_eq!(numbers, (1..=19).chain([22]).collect::<Vec<u8>>());
     assert!(Refusal::ALL.iter().all(|r| !r.to_string().is_empty()));
 }

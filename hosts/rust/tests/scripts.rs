@@ -72,3 +72,26 @@ fn sounds() {
     assert_eq!(sound(script, &mut few), Ran { len: 8, good: true });
     assert_eq!(few, cells[..5]);
 }
+
+/// A fade of 64 frames to the tone that plays, by either fade call: 256 frames later the box is silent after the one, and sounds on after the other.
+#[test]
+fn the_second_fade_sounds_on() {
+    let heard = |fade: &str| {
+        let envelope = "000000008C00C8";
+        let script = format!(
+            "700200001F4003E800FF00
+120000000000000000000001000000FF00B8010000000000000000
+1100001F400001
+130001{envelope}80
+{fade}0001000A{envelope}
+290200
+290040
+"
+        );
+        let (cells, good) = sound_of(script.as_bytes());
+        assert!(good);
+        cells[0x200..].iter().any(|cell| *cell != 0)
+    };
+    assert!(!heard("14"));
+    assert!(heard("73"));
+}

@@ -31,7 +31,19 @@ returns-6 c = rw (c .before .before .match .keys6) (c .say6 .ensures)
 
 returns-7 : tie.Need-returns-7
 unfolding addedText
-returns-7 c = let r = c .before .before .match .rest in rw (ne-eqb _ _ (r .0 .0 .0 .0 .0 .1), ne-eqb _ _ (r .0 .0 .0 .0 .1), ne-eqb _ _ (r .0 .0 .0 .1), ne-eqb _ _ (r .0 .0 .1), ne-eqb _ _ (r .0 .1), ne-eqb _ _ (r .1)) (c .say7 .ensures)
+returns-7 c = rw (c .before .before .match .keys7) (c .say7 .ensures)
+
+returns-8 : tie.Need-returns-8
+unfolding addedText
+returns-8 c = rw (c .before .before .match .keys8) (c .say8 .ensures)
+
+returns-9 : tie.Need-returns-9
+unfolding addedText
+returns-9 c = rw (c .before .before .match .keys9) (c .say9 .ensures)
+
+returns-10 : tie.Need-returns-10
+unfolding addedText
+returns-10 c = let r = c .before .before .match .rest in rw (ne-eqb _ _ (r .0 .0 .0 .0 .0 .0 .0 .0 .1), ne-eqb _ _ (r .0 .0 .0 .0 .0 .0 .0 .1), ne-eqb _ _ (r .0 .0 .0 .0 .0 .0 .1), ne-eqb _ _ (r .0 .0 .0 .0 .0 .1), ne-eqb _ _ (r .0 .0 .0 .0 .1), ne-eqb _ _ (r .0 .0 .0 .1), ne-eqb _ _ (r .0 .0 .1), ne-eqb _ _ (r .0 .1), ne-eqb _ _ (r .1)) (c .say10 .ensures)
 
 pub why-added-spec : {M : Type 1} → statement M
-why-added-spec = tie.close (tie.spec (λ c. search needs) (λ c κs. search needs) (λ c. search needs) (λ c κs. search needs) (λ c. search needs) (λ c κs. search needs) (λ c. search needs) (λ c κs. search needs) (λ c. search needs) (λ c κs. search needs) (λ c. search needs) (λ c κs. search needs) (λ c. search needs) (λ c κs. search needs) returns returns-2 returns-3 returns-4 returns-5 returns-6 returns-7)
+why-added-spec = tie.close (tie.spec (λ c. search needs) (λ c κs. search needs) (λ c. search needs) (λ c κs. search needs) (λ c. search needs) (λ c κs. search needs) (λ c. search needs) (λ c κs. search needs) (λ c. search needs) (λ c κs. search needs) (λ c. search needs) (λ c κs. search needs) (λ c. search needs) (λ c κs. search needs) (λ c. search needs) (λ c κs. search needs) (λ c. search needs) (λ c κs. search needs) (λ c. search needs) (λ c κs. search needs) returns returns-2 returns-3 returns-4 returns-5 returns-6 returns-7 returns-8 returns-9 returns-10)

@@ -14,14 +14,15 @@ use Rattle.marks.specs.Steps.{aged, renewed}
 use Rattle.marks.specs.declared.Mark.{Mark}
 use Rattle.marks.proofs.Laws.{rank-few, none-beside}
 use Rattle.marks.proofs.Starts.{map-set}
-use Rattle.marks.proofs.Steps.{renewed-length, renewed-other}
+use Rattle.marks.proofs.Ranks.{number}
+use Rattle.marks.proofs.Steps.{renewed-length, renewed-other, renewed-rank}
 use Rattle.voice.specs.Voices.{audible, silentVoice}
 use Rattle.voice.specs.declared.Voice.{Voice}
 use Rattle.allocate.specs.Allocation.{withRanks}
-use Rattle.allocate.specs.Keys.{keyOf, ageOf, agedKey, keysOf, limitOf, lowered, rekeyed}
+use Rattle.allocate.specs.Keys.{keyOf, ageOf, agedKey, keysOf, rankIn, limitOf, lowered, soundingAfter, rekeyed}
 use Rattle.allocate.proofs.Keyed.{ranks-length, ranks-at, plain-keys}
 
-keys-length : (b : Bool) (vs : List Voice) (ks : List Mark) → length (keysOf b vs ks) ≡ length vs
+pub keys-length : (b : Bool) (vs : List Voice) (ks : List Mark) → length (keysOf b vs ks) ≡ length vs
 keys-length b vs ks = length-map (withRanks vs ks) (agedKey b) ∙ ranks-length vs ks
 
 get-mapped : (b : Bool) (xs : List (Voice × ℕ)) (j : ℕ) → j < length xs → getD (map (agedKey b) xs) j 0 ≡ agedKey b (getD xs j (silentVoice 0, 255))
@@ -34,10 +35,15 @@ keys-at : (b : Bool) (vs : List Voice) (ks : List Mark) (i : ℕ) → i < length
 keys-at b vs ks i h l =
     get-mapped b (withRanks vs ks) i (omega (arith, ranks-length vs ks)) ∙ ap (agedKey b) (ranks-at vs ks i (silentVoice 0) nothing h l)
 
+-- the key of a voice that sounds
+started-key : (v : Voice) (r : ℕ) → audible v ≡ true → 32 * v .priority + suc r ≡ keyOf r v
+started-key v r a = rw a (omega arith)
+
 -- document 01's keys hang on the voices alone
-pub plain-rekeyed : (vs : List Voice) (ks ls : List Mark) (i : ℕ) (v : Voice) (rank : ℕ) → rekeyed false i v rank (keysOf false vs ks) ≡ keysOf false (set vs i v) ls
-plain-rekeyed vs ks ls i v rank =
-    ap (λ (keys : List ℕ). set keys i (keyOf 0 v)) (plain-keys vs ks) ∙ sym (map-set (keyOf 0) vs i v) ∙ sym (plain-keys (set vs i v) ls)
+pub plain-rekeyed : (vs : List Voice) (ks ls : List Mark) (i : ℕ) (v : Voice) → audible v ≡ true → rekeyed false i (v .priority) 1 (keysOf false vs ks) ≡ keysOf false (set vs i v) ls
+plain-rekeyed vs ks ls i v a =
+    rw (started-key v 0 a)
+    (ap (λ (keys : List ℕ). set keys i (keyOf 0 v)) (plain-keys vs ks) ∙ sym (map-set (keyOf 0) vs i v) ∙ sym (plain-keys (set vs i v) ls))
 
 -- ---- one key
 -- an age below 31 can be read off, one up
@@ -46,11 +52,11 @@ key-age a r h =
     let e : suc (a * 32 + r) ≡ a * 32 + suc r = omega arith in
     rw e (mul-add-mod-self-right a 32 (suc r) ∙ mod-eq-of-lt {n = suc r} {m = 32} (omega arith))
 
-limit-free : (v : Voice) (r : ℕ) → audible v ≡ false → limitOf (keyOf r v) ≡ 31
+limit-free : (v : Voice) (r : ℕ) → audible v ≡ false → limitOf (keyOf r v) ≡ 32
 limit-free v r e = rw e
 
 limit-taken : (v : Voice) (r : ℕ) → audible v ≡ true → r < 16 → limitOf (keyOf r v) ≡ suc r
-limit-taken v r e h = rw (e, ne-eqb (suc (v .priority * 32 + r)) 0 (λ z. omega arith)) (key-age (v .priority) r (omega arith))
+limit-taken v r e h = rw (e, key-age (v .priority) r (omega arith)) (omega arith)
 
 lower-free : (limit : ℕ) (v : Voice) (r s : ℕ) → audible v ≡ false → lowered limit (keyOf r v) ≡ keyOf s v
 lower-free limit v r s e = rw (e, le-ltb limit (0 % 32) (omega arith))
@@ -72,7 +78,7 @@ heard-here (v ∷ vs) zero h = refl
 heard-here (v ∷ vs) (suc i) h = heard-here vs i (omega arith)
 
 -- ---- by the present rules, beside settled marks
-module _ (vs : List Voice) (ks : List Mark) (i : ℕ) (v : Voice) (e : length vs ≡ 16) (f : length ks ≡ 16) (q : settledMarks (map audible vs) ks ≡ ks) (l : i < 16) where
+module _ (vs : List Voice) (ks : List Mark) (i : ℕ) (e : length vs ≡ 16) (f : length ks ≡ 16) (q : settledMarks (map audible vs) ks ≡ ks) (l : i < 16) where
   abbrev keys : List ℕ
   keys = keysOf true vs ks
 
@@ -84,6 +90,30 @@ module _ (vs : List Voice) (ks : List Mark) (i : ℕ) (v : Voice) (e : length vs
 
   few : (j : ℕ) → j < 16 → audible (getD vs j (silentVoice 0)) ≡ true → rankAt ks j < 16
   few j h a = rank-few (map audible vs) ks heard-full f q j (heard-here vs j (omega arith) ∙ a)
+
+  -- a key has its mark's rank
+  pub rank-back : rankIn (getD keys i 0) ≡ rankAt ks i
+  rank-back = rw (keys-at true vs ks i (omega arith) (omega arith)) (by-voice (audible old) refl)
+    where
+      by-voice : (t : Bool) → audible old ≡ t → rankIn (keyOf (rankAt ks i) old) ≡ rankAt ks i
+      by-voice true a =
+          let r = few i l a in
+          rw (a, key-age (old .priority) (rankAt ks i) (omega arith)) (omega arith)
+      by-voice false a =
+          let n : getD ks i nothing ≡ nothing = none-beside (map audible vs) ks heard-full f q i (heard-here vs i (omega arith) ∙ a) in
+          rw a (sym (ap (λ (k : Mark). k .rank) n))
+
+  -- a voice started there is younger than all the others
+  pub sounding-rank : soundingAfter true (number (map audible vs)) (getD keys i 0) ≡ suc (rankAt (renewed i ks) i)
+  sounding-rank = rw (keys-at true vs ks i (omega arith) (omega arith)) (by-voice (audible old) refl)
+    where
+      by-voice : (t : Bool) → audible old ≡ t → soundingAfter true (number (map audible vs)) (keyOf (rankAt ks i) old) ≡ suc (rankAt (renewed i ks) i)
+      by-voice true a =
+          let h : heardAt (map audible vs) i ≡ true = heard-here vs i (omega arith) ∙ a in
+          rw (a, ne-eqb (suc (old .priority * 32 + rankAt ks i)) 0 (λ z. omega arith)) (omega (arith, rw h at (renewed-rank (map audible vs) ks i heard-full f q l)))
+      by-voice false a =
+          let h : heardAt (map audible vs) i ≡ false = heard-here vs i (omega arith) ∙ a in
+          rw a (omega (arith, rw h at (renewed-rank (map audible vs) ks i heard-full f q l)))
 
   limit : ℕ
   limit = limitOf (getD keys i 0)
@@ -107,7 +137,7 @@ module _ (vs : List Voice) (ks : List Mark) (i : ℕ) (v : Voice) (e : length vs
           let n : getD ks i nothing ≡ nothing = none-beside (map audible vs) ks heard-full f q i (heard-here vs i (omega arith) ∙ a) in
           let z : rankAt ks i ≡ 255 = ap (λ (k : Mark). k .rank) n in
           let y = few j h b in
-          rw (limit-free old (rankAt ks i) a, le-ltb (rankAt ks i) r (omega arith)) (lower-stays 31 w r b y (omega arith))
+          rw (limit-free old (rankAt ks i) a, le-ltb (rankAt ks i) r (omega arith)) (lower-stays 32 w r b y (omega arith))
       by-voices true true a b =
           let x = few i l a in
           let y = few j h b in
@@ -117,12 +147,13 @@ module _ (vs : List Voice) (ks : List Mark) (i : ℕ) (v : Voice) (e : length vs
           by-age y true p = let o = ltb-true (rankAt ks i) r p in lower-moves (suc (rankAt ks i)) w r b y (omega arith) (omega arith)
           by-age y false p = let o = ltb-false (rankAt ks i) r p in lower-stays (suc (rankAt ks i)) w r b y (omega arith)
 
-  pub rekeyed-keys : rekeyed true i v (rankAt (renewed i ks) i) keys ≡ keysOf true (set vs i v) (renewed i ks)
+  pub rekeyed-keys : (v : Voice) → audible v ≡ true → rekeyed true i (v .priority) (suc (rankAt (renewed i ks) i)) keys ≡ keysOf true (set vs i v) (renewed i ks)
   unfolding limit
-  rekeyed-keys =
-      ext-getD 0 (set (map (lowered limit) keys) i (keyOf (rankAt (renewed i ks) i) v)) (keysOf true (set vs i v) (renewed i ks))
+  rekeyed-keys v a =
+      rw (started-key v (rankAt (renewed i ks) i) a)
+      (ext-getD 0 (set (map (lowered limit) keys) i (keyOf (rankAt (renewed i ks) i) v)) (keysOf true (set vs i v) (renewed i ks))
       (length-set (map (lowered limit) keys) i (keyOf (rankAt (renewed i ks) i) v) ∙ long ∙ sym (keys-length true (set vs i v) (renewed i ks) ∙ length-set vs i v ∙ e))
-      (λ j h. by-place j (below-sixteen j h) (eqb j i) refl)
+      (λ j h. by-place j (below-sixteen j h) (eqb j i) refl))
     where
       long : length (map (lowered limit) keys) ≡ 16
       long = length-map keys (lowered limit) ∙ keys-length true vs ks ∙ e

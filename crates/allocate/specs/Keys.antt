@@ -27,6 +27,10 @@ agedKey present x = keyOf (ageOf present (x .1)) (x .0)
 abbrev pub keysOf : Bool → List Voice → List Mark → List ℕ
 keysOf present vs ks = map (agedKey present) (withRanks vs ks)
 
+-- a key's rank by the present rules; 255, which is none, where the voice is inaudible
+abbrev pub rankIn : ℕ → ℕ
+rankIn key = (key % 32 + 255) % 256
+
 -- a voice may be taken where its key is below this
 abbrev pub boundOf : VoiceStealingPolicy → ℕ → ℕ
 boundOf P.LowestPriorityOldest priority = suc (priority * 32)
@@ -40,7 +44,7 @@ lowestKey keys bound = placeOf (firstLowest (λ r. r) keys bound)
 
 -- a key's age, one up; above every age where the voice was inaudible
 abbrev pub limitOf : ℕ → ℕ
-limitOf key = cond (eqb key 0) 31 (key % 32)
+limitOf key = suc ((key % 32 + 31) % 32)
 
 abbrev pub lowered : ℕ → ℕ → ℕ
 lowered limit key = cond (ltb limit (key % 32)) (key - 1) key
@@ -49,6 +53,10 @@ lowered limit key = cond (ltb limit (key % 32)) (key - 1) key
 abbrev pub movedKeys : Bool → ℕ → List ℕ → List ℕ
 movedKeys present i keys = cond present (map (lowered (limitOf (getD keys i 0))) keys) keys
 
--- the keys after voice i became v, of this rank
-abbrev pub rekeyed : Bool → ℕ → Voice → ℕ → List ℕ → List ℕ
-rekeyed present i v rank keys = set (movedKeys present i keys) i (keyOf (ageOf present rank) v)
+-- how many voices sound after one was started where this key stood, of n that did; document 01's box does not count them
+abbrev pub soundingAfter : Bool → ℕ → ℕ → ℕ
+soundingAfter present n key = cond present (cond (eqb key 0) (suc n) n) 1
+
+-- the keys after a voice of this priority was started at i, of a rank one below `above`
+abbrev pub rekeyed : Bool → ℕ → ℕ → ℕ → List ℕ → List ℕ
+rekeyed present i priority above keys = set (movedKeys present i keys) i (32 * priority + above)

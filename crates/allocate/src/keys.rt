@@ -1,9 +1,10 @@
 // The allocation as one search over numbers, for a caller that plays many requests: a key for each voice, kept beside the voices.
 ghost use mathlib.Core.Path.{_≡_};
 ghost use Prim.Native.Nat.{min, _<_};
-ghost use lib.ListN.{take};
+ghost use lib.ListN.{length, take};
 ghost use Rattle.allocate.specs.Allocation.{toldPlace};
-ghost use Rattle.allocate.specs.Keys.{ageOf, keyOf, keysOf, boundOf, lowestKey, limitOf, lowered, movedKeys, rekeyed};
+ghost use Rattle.allocate.specs.Keys.{ageOf, keyOf, keysOf, rankIn, boundOf, lowestKey, limitOf, lowered, movedKeys, soundingAfter, rekeyed};
+ghost use mathlib.Core.Bool.{true};
 ghost use mathlib.Core.List.{map};
 use crate::Allocated;
 use marks::Mark;
@@ -37,6 +38,13 @@ pub fn keys_of(voices: [Voice; 16], marks: [Mark; 16], present: bool) -> [u16; 1
         keys[i] = key(v, age(present, k.rank));
     }
     keys
+}
+
+// The rank in a key of the present rules.
+pub fn rank(key: u16) -> u8
+    ensures { λ r. ⌜ r ≡ rankIn key ⌝ }
+{
+    ((key % 32 + 255) % 256) as u8
 }
 
 // A voice is given where its key is below this.
@@ -75,7 +83,7 @@ pub fn lowest(keys: &[u16], n: usize, bound: u16) -> Allocated
 fn limit(key: u16) -> u16
     ensures { λ r. ⌜ r ≡ limitOf key ⌝ }
 {
-    if key == 0 { 31 } else { key % 32 }
+    (key % 32 + 31) % 32 + 1
 }
 
 fn lowered_key(limit: u16, key: u16) -> u16
@@ -85,33 +93,43 @@ fn lowered_key(limit: u16, key: u16) -> u16
 }
 
 // Those younger than one that goes move down.
-fn lowered(keys: [u16; 16], limit: u16) -> [u16; 16]
-    ensures { λ r. ⌜ r ≡ map (lowered limit) keys ⌝ }
+fn lower(keys: &mut [u16; 16], limit: u16)
+    requires { ⌜ length (now keys) ≡ 16 ⌝ }
+    ensures { λ r. ⌜ now (keys .exit) ≡ map (lowered limit) (now (keys .entry)) ⌝ }
 {
-    let mut out = keys;
     for i in 0..16 {
-        out[i] = lowered_key(limit, out[i]);
+        keys[i] = lowered_key(limit, keys[i]);
     }
-    out
 }
 
-fn moved(keys: [u16; 16], i: usize, present: bool) -> [u16; 16]
-    requires { ⌜ i < 16 ⌝ }
-    ensures { λ r. ⌜ r ≡ movedKeys present i keys ⌝ }
+fn move_down(keys: &mut [u16; 16], i: usize, present: bool)
+    requires { ⌜ (i < 16) × (length (now keys) ≡ 16) ⌝ }
+    ensures { λ r. ⌜ now (keys .exit) ≡ movedKeys present i (now (keys .entry)) ⌝ }
 {
     if present {
-        lowered(keys, limit(keys[i]))
-    } else {
-        keys
+        let limit = limit(keys[i]);
+        lower(keys, limit);
     }
 }
 
-// The keys after voice i was started, of this rank.
-pub fn rekeyed(keys: [u16; 16], i: usize, v: Voice, rank: u8, present: bool) -> [u16; 16]
-    requires { ⌜ i < 16 ⌝ }
-    ensures { λ r. ⌜ r ≡ rekeyed present i v rank keys ⌝ }
+// How many voices sound after one was started where this key stood: one above its rank. Document 01's box does not count them.
+pub fn sounding_after(sounding: u8, key: u16, present: bool) -> u8
+    requires { ⌜ (present ≡ true → sounding < 255) ⌝ }
+    ensures { λ r. ⌜ r ≡ soundingAfter present sounding key ⌝ }
 {
-    let mut out = moved(keys, i, present);
-    out[i] = key(v, age(present, rank));
-    out
+    if present {
+        if key == 0 { sounding + 1 } else { sounding }
+    } else {
+        1
+    }
+}
+
+// Voice i was started, of this priority and of a rank one below `above`. The keys change where they stand: one written into a copy, which is then
+// read whole, would be waited for.
+pub fn rekey(keys: &mut [u16; 16], i: usize, priority: u8, above: u8, present: bool)
+    requires { ⌜ (i < 16) × (length (now keys) ≡ 16) ⌝ }
+    ensures { λ r. ⌜ now (keys .exit) ≡ rekeyed present i priority above (now (keys .entry)) ⌝ }
+{
+    move_down(keys, i, present);
+    keys[i] = 32 * (priority as u16) + (above as u16);
 }

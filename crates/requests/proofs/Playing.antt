@@ -1,31 +1,26 @@
 -- The loop over a list of requests: what is left to play gives what all gives. Assumes nothing.
 use Prim.Native.Nat.{ℕ, suc, _+_, _-_, _*_, _≤_, _<_}
-use mathlib.Core.Path.{_≡_, refl, ap, sym, _∙_}
+use mathlib.Core.Path.{_≡_, sym, _∙_}
 use mathlib.Core.Bool.{Bool, true, false}
 use mathlib.Core.List.{List, _∷_}
 use native.Mathlib.Omega.{arith}
 use native.Mathlib.Numerals.{add-one}
-use lib.ListN.{length, getD, set}
+use lib.ListN.{set}
 use lib.Seq.{sets}
-use Rattle.allocate.specs.Keys.{keysOf, rekeyed}
+use Rattle.allocate.specs.Keys.{ageOf, keysOf, rekeyed}
 use Rattle.allocate.proofs.Rekeyed.{plain-rekeyed, rekeyed-keys}
 use Rattle.error.specs.Numbers.{numberOf}
 use Rattle.error.specs.Told.{Told, value, refused}
 use Rattle.error.specs.declared.AudioError.{AudioError}
-use Rattle.laws.proofs.Bools.{never}
-use Rattle.laws.proofs.Lists.{getD-any}
-use Rattle.marks.specs.Marks.{ValidIn, nothing, rankAt}
-use Rattle.marks.specs.declared.Mark.{Mark}
-use Rattle.marks.specs.declared.Marks.{Marks}
+use Rattle.marks.specs.Marks.{ValidIn, rankAt}
 use Rattle.marks.specs.declared.Present.{Present}
 use Rattle.marks.proofs.Laws.{valid-inside, valid-quiet}
-use Rattle.marks.proofs.Steps.{renewed-length}
-use Rattle.mixer.specs.Mixers.{withVoices}
 use Rattle.play.specs.Plays.{playedUnder, toldPlay}
 use Rattle.play.specs.declared.Played.{Played}
 use Rattle.play.proofs.Placing.{placed, placed-stored, placed-kept}
 use Rattle.start.specs.declared.Request.{Request}
 use Rattle.voice.specs.Voices as S
+use Rattle.voice.specs.Voices.{audible}
 use Rattle.voice.specs.declared.Voice.{Voice}
 use Rattle.requests.specs.Players.{playedAll}
 use Rattle.requests.specs.Presents.{leftBy, playerBy}
@@ -51,21 +46,13 @@ left-kept : (present : Bool) (p : Present) (q : Played) (x : AudioError) → q .
 left-kept true p q x e f = rw (f, e)
 left-kept false p q x e f = rw e
 
--- as long as sixteen marks are
-pub marks-full : (present : Bool) (p : Present) (j : ℕ) (k : Marks) → ValidIn present p → k ≡ renewedBy present j (p .marks) → present ≡ true → length (k .voices) ≡ 16
-marks-full true p j k h e t = rw e (renewed-length j (p .marks .voices) ∙ h .full)
-marks-full false p j k h e t = never t
-
-pub rank-any : (ks : List Mark) (j : ℕ) (d : Mark) → j < 16 → length ks ≡ 16 → getD ks j d .rank ≡ rankAt ks j
-rank-any ks j d h e = ap (λ (k : Mark). k .rank) (getD-any ks j d nothing (omega arith))
-
-stored-keys : (present : Bool) (p : Present) (j : ℕ) (v : Voice) (rank : ℕ) → ValidIn present p → j < 16
-    → (present ≡ true → rank ≡ rankAt (renewedBy present j (p .marks) .voices) j)
-    → rekeyed present j v rank (keysOf present (p .mixer .voices) (p .marks .voices))
+stored-keys : (present : Bool) (p : Present) (j : ℕ) (v : Voice) (above : ℕ) → ValidIn present p → j < 16 → audible v ≡ true
+    → above ≡ suc (ageOf present (rankAt (renewedBy present j (p .marks) .voices) j))
+    → rekeyed present j (v .priority) above (keysOf present (p .mixer .voices) (p .marks .voices))
     ≡ keysOf present (set (p .mixer .voices) j v) (renewedBy present j (p .marks) .voices)
-stored-keys true p j v rank h b f =
-    rw (f refl) (rekeyed-keys (p .mixer .voices) (p .marks .voices) j v (h .inside .full) (h .full) (valid-quiet h) b)
-stored-keys false p j v rank h b f = plain-rekeyed (p .mixer .voices) (p .marks .voices) (p .marks .voices) j v rank
+stored-keys true p j v above h b a f =
+    rw f (rekeyed-keys (p .mixer .voices) (p .marks .voices) j (h .inside .full) (h .full) (valid-quiet h) b v a)
+stored-keys false p j v above h b a f = rw f (plain-rekeyed (p .mixer .voices) (p .marks .voices) (p .marks .voices) j v a)
 
 module _ (present : Bool) (start : Present) (bytes requests cells₀ : List ℕ) (count i : ℕ) where
   left-step : i < count → requestsFrom requests i (count - i) ≡ requestAt requests (10 * i) ∷ requestsFrom requests (i + 1) (count - (i + 1))
@@ -99,26 +86,22 @@ module _ (present : Bool) (start : Present) (bytes requests cells₀ : List ℕ)
         }
 
     -- one that gets a voice
-    pub playing-stored : (j : ℕ) (v : Voice) (k : Marks) (rank : ℕ) → placed present p bytes r keys ≡ value (j, v) → S.Valid v → k ≡ renewedBy present j (p .marks)
-        → (present ≡ true → rank ≡ rankAt (k .voices) j)
-        → Playing present start bytes requests cells₀ count (i + 1)
-        (record { mixer = withVoices (p .mixer) (set (p .mixer .voices) j v); marks = k })
-        (rekeyed present j v rank keys)
-        (set cells i j)
-    playing-stored j v k rank e w m f =
+    pub playing-stored : (j : ℕ) (v : Voice) (above : ℕ) → placed present p bytes r keys ≡ value (j, v) → S.Valid v
+        → above ≡ suc (ageOf present (rankAt (renewedBy present j (p .marks) .voices) j))
+        → Playing present start bytes requests cells₀ count (i + 1) (storedIn present p j v) (rekeyed present j (v .priority) above keys) (set cells i j)
+    playing-stored j v above e w f =
         let g = placed-stored present p bytes r (l .valid) keys (l .keyed) j v e in
         let a = placed-audible present p bytes r keys j v e in
         let b : j < 16 = omega (arith, g .place, valid-inside present p (l .valid) .few) in
         let after = storedIn present p j v in
         let n : playerBy present .next p bytes r ≡ after = left-stored present p (playedUnder present p bytes r) j v (l .valid) b a (g .mixer) (g .told) in
-        rw m
-        (record {
+        record {
           within = omega arith;
           valid = stored-valid-in present p j v (l .valid) (g .place) w a;
-          keyed = rw (l .keyed) (stored-keys present p j v rank (l .valid) b (λ t. rw m at (f t)));
+          keyed = rw (l .keyed) (stored-keys present p j v above (l .valid) b a f);
           same = playing-step after n;
           told = telling-step after (value j) n (g .told);
-        })
+        }
 
   pub playing-end : (p : Present) (keys cells : List ℕ) → Playing present start bytes requests cells₀ count i p keys cells → count ≤ i
       → (p ≡ playedAll (playerBy present) start bytes (requestsFrom requests 0 count)) × (cells ≡ sets cells₀ 0 (outcomesOf (playerBy present) start bytes (requestsFrom requests 0 count)))

@@ -158,7 +158,7 @@ handed p bytes r i e =
         let z : n ≡ i = value-is e in
         record { voice = v; heard = k .0; place = rw z at (l n f); mixer = rw (f, g, z) }
 
-aged-rule : (old : ℕ) (k : Mark) → aged old k .whole ≡ k .whole
+pub aged-rule : (old : ℕ) (k : Mark) → aged old k .whole ≡ k .whole
 aged-rule old k = go (ltb old (k .rank) && ltb (k .rank) 16)
   where
     go : (t : Bool) → cond t (ranked (k .rank - 1) k) k .whole ≡ k .whole

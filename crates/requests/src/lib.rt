@@ -5,11 +5,14 @@ ghost use lib.ListN.{length, set};
 ghost use Rattle.laws.specs.Made.{Made};
 ghost use Rattle.marks.specs.Marks.{Valid, ValidIn};
 ghost use Rattle.requests.specs.Presents.{ValidPresentPlayed, playedPresent, playerBy};
-ghost use Rattle.requests.specs.Steps.{renewedBy};
+ghost use Rattle.requests.specs.Steps.{rankedBy, marksBy};
 ghost use Rattle.requests.specs.Slices.{big16At, requestAt, PlaysEach};
 use allocate::keys::keys_of;
-use allocate::keys::rekeyed;
+use allocate::keys::rank;
+use allocate::keys::rekey;
+use allocate::keys::sounding_after;
 use envelope::AdsrSpec;
+use marks::Mark;
 use marks::Marks;
 use marks::Present;
 use play::PlayOutcome;
@@ -83,17 +86,37 @@ fn tell(outcomes: &mut [u16], i: usize, cell: u16)
     }
 }
 
-// Marks beside a voice that was started; document 01's box has none.
-fn renewed(marks: Marks, i: usize, present: bool) -> Marks
-    requires { ⌜ i < 16 ⌝ }
-    ensures { λ r. ⌜ r ≡ renewedBy present i marks ⌝ }
+// The rules of these marks with the ranks of these keys.
+fn ranked(rules: [Mark; 16], keys: [u16; 16]) -> [Mark; 16]
+    ensures { λ r. ⌜ r ≡ rankedBy keys rules ⌝ }
 {
-    if present { marks.renewed(i) } else { marks }
+    let mut out = rules;
+    for i in 0..16 {
+        let k = rules[i];
+        out[i] = Mark {
+            rank: rank(keys[i]),
+            ..k
+        };
+    }
+    out
+}
+
+// What stands beside the voices after a list; document 01's box has no ranks.
+fn marks_after(marks: Marks, rules: [Mark; 16], keys: [u16; 16], present: bool) -> Marks
+    ensures { λ r. ⌜ r ≡ marksBy present marks keys rules ⌝ }
+{
+    if present {
+        let voices = ranked(rules, keys);
+        Marks { voices, ..marks }
+    } else {
+        marks
+    }
 }
 
 // Plays every request of the slice, one after another, and tells each one's outcome in a cell of its own, as far as there are cells: the voice
 // that it got, or 256 × its refusal's number and 255. Fewer than ten bytes at the slice's end are no request. Voices and their keys stay in locals,
-// since a state handed over for each request would cost more in copies than the request. `present` for the box of the present rules.
+// since a state handed over for each request would cost more in copies than the request; ranks stand in the keys alone, with how many voices sound,
+// and are written beside the voices at the end. `present` for the box of the present rules.
 pub fn play_each(
     p: Present,
     bytes: &[u8],
@@ -106,10 +129,11 @@ pub fn play_each(
 {
     let count = requests.len() / 10;
     let mut mixer = p.mixer;
-    let mut marks = p.marks;
+    let marks = p.marks;
     let voices = mixer.voices;
-    let ranks = marks.voices;
-    let mut keys = keys_of(voices, ranks, present);
+    let mut rules = marks.voices;
+    let mut keys = keys_of(voices, rules, present);
+    let mut sounding = marks::below(rules, 16);
     for i in 0..count {
         let request = request_at(requests, 10 * i);
         let bank = mixer.bank;
@@ -117,13 +141,17 @@ pub fn play_each(
         match place(&keys, mixer.n, policy, bank, bytes, request, present) {
             Placed::Refused(e) => tell(outcomes, i, 256 * (e.number() as u16) + 255),
             Placed::Voice(k, v) => {
-                marks = renewed(marks, k, present);
-                let mark = marks.voices[k];
-                keys = rekeyed(keys, k, v, mark.rank, present);
+                sounding = sounding_after(sounding, keys[k], present);
+                rekey(&mut keys, k, v.priority, sounding, present);
+                rules[k] = Mark {
+                    whole: true,
+                    rank: 255,
+                };
                 mixer.voices[k] = v;
                 tell(outcomes, i, k as u16);
             }
         }
     }
+    let marks = marks_after(marks, rules, keys, present);
     Present { mixer, marks }
 }

@@ -7,27 +7,27 @@ use Rattle.laws.specs.Lists.{mapFirst}
 use Rattle.laws.proofs.Lists.{mapFirst-step}
 use Rattle.marks.proofs.Steps.{map-all}
 use Rattle.allocate.specs.Keys.{lowered}
-use Rattle.allocate.proofs.keys.lowered.Statement.{statement}
-use Rattle.allocate.proofs.keys.lowered.Tie as tie
+use Rattle.allocate.proofs.keys.lower.Statement.{statement}
+use Rattle.allocate.proofs.keys.lower.Tie as tie
 
 abbrev Inv-loop : tie.InvT-loop
-Inv-loop limit out₀ i₀ out i = (i ≤ 16) × (out ≡ mapFirst (lowered limit) i out₀)
+Inv-loop keys₀ limit i₀ keys i = (i ≤ 16) × (keys ≡ mapFirst (lowered limit) i keys₀)
 
 abbrev μ-loop : tie.MeasureT-loop
-μ-loop limit out₀ i₀ out i = 16 - i
+μ-loop keys₀ limit i₀ keys i = 16 - i
 
 loop-again : tie.Need-loop-again Inv-loop μ-loop
 loop-again c =
-    let s = c .before .before in
+    let s = c .before .before .before in
     (omega arith, rw (c .lowered-key .ensures, s .loop .inv .1) (mapFirst-step (lowered _) _ _ (s .loop .i)))
 
 returns : tie.Need-returns Inv-loop μ-loop
 returns c =
     let s = c .before in
-    s .loop .inv .1 ∙ map-all (lowered _) (s .loop .i) _ (omega (arith, s .before .good .0 .1 .0 .1))
+    s .loop .inv .1 ∙ map-all (lowered _) (s .loop .i) _ (omega (arith, s .before .pre))
 
-pub lowered-spec : {M : Type 1} → statement M
-lowered-spec =
+pub lower-spec : {M : Type 1} → statement M
+lower-spec =
     tie.close
     (tie.spec
     Inv-loop

@@ -1,5 +1,5 @@
 /* The calls of Birchjack's static library (docs/HOSTS.md). Every call is proved: it ends, it traps nowhere, and it gives what its
- * definition in crates/exports/specs or crates/exports_replay/specs says, for all arguments.
+ * definition in the specs of crates/exports, crates/exports_play or crates/exports_replay says, for all arguments.
  *
  * What a call is lent it lends back: nothing is kept, nothing is allocated, and there is no state between calls. A buffer is a pointer
  * and a number of elements. The pointer is never NULL, not even where the number is 0, and no buffer that is written overlaps another.
@@ -154,6 +154,16 @@ uint8_t birchjack_play(size_t n, bool free_only, const uint8_t *bytes, size_t by
 uint8_t birchjack_pcm_i16(size_t n, bool free_only, uint8_t master_gain_q8, const uint8_t *bytes, size_t bytes_len,
                           uint32_t sample_rate_hz, uint16_t effect_count, const uint8_t *requests, size_t requests_len,
                           uint8_t polyblep_waveform, uint32_t polyblep_hz, uint16_t polyblep_ms, int16_t *out, size_t out_len);
+
+/* The same without PolyBLEP, for a box to which requests are left under labels, after the others were played: at the start of a frame, while a voice
+ * is free, the one of highest priority goes in, the earliest left among equals; one whose entry fails is dropped. Up to 32 wait. A request that is left
+ * has twelve bytes: label (2), then the ten of a request; bytes behind the last whole one are not read. Each one's number goes into `numbers`, as far as
+ * there are cells: 0, 18 where its label is waiting, or 17 where 32 are. After the frames: the labels that wait, next first, 0 in the cells past them, and
+ * how many they are; and the number and label of the latest that was dropped, 0 and 0 where none was. */
+uint8_t birchjack_waiting_pcm_i16(size_t n, bool free_only, uint8_t master_gain_q8, const uint8_t *bytes, size_t bytes_len,
+                                  uint32_t sample_rate_hz, uint16_t effect_count, const uint8_t *requests, size_t requests_len,
+                                  const uint8_t *left, size_t left_len, uint8_t *numbers, size_t numbers_len, int16_t *out,
+                                  size_t out_len, uint16_t (*labels)[32], size_t *count, uint16_t (*dropped)[2]);
 
 /* A stereo frame in each pair of cells (an odd last is not written), with a pan for each voice from voice 0 on. */
 uint8_t birchjack_stereo_i16(size_t n, bool free_only, uint8_t master_gain_q8, const uint8_t *bytes, size_t bytes_len,

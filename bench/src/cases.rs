@@ -82,7 +82,21 @@ fn sounding(n: usize, kind: u8, envelope: &Envelope) -> Script {
         requests: (0..n as u16)
             .flat_map(|i| request(3 * (5 * i + 2) + 1, envelope, 128))
             .collect(),
+        left: vec![],
         blep_hz: 0,
+    }
+}
+
+/// As many as can wait, each under a label of its own.
+fn waiting(script: Script) -> Script {
+    let left = (0..32u16).flat_map(|i| {
+        let mut bytes = (100 + i).to_be_bytes().to_vec();
+        bytes.extend(request(3 * i + 1, &PAD, (i % 5) as u8));
+        bytes
+    });
+    Script {
+        left: left.collect(),
+        ..script
     }
 }
 
@@ -235,7 +249,7 @@ fn boxed() -> Vec<Case> {
     cases
 }
 
-/// The same jobs done by a box of the present rules, and frames of voices all of whose gains are 255.
+/// The same jobs done by a box of the present rules, frames of voices all of whose gains are 255, and frames of voices all of which sound on while others wait.
 fn present() -> Vec<Case> {
     let mut cases = boxed();
     for n in [2, 16] {
@@ -245,6 +259,11 @@ fn present() -> Vec<Case> {
             cases.push(frames(&name, job(LENGTH), full(sounding(n, TONE, &PAD))));
         }
     }
+    let script = waiting(sounding(16, TONE, &PAD));
+    cases.push(Case {
+        name: "mono, tone, 16 voices, 32 waiting".to_string(),
+        ..frames("", Job::Waiting(LENGTH), script)
+    });
     for case in &mut cases {
         case.rules = Rules::Document02;
         case.name = format!("present rules: {}", case.name);

@@ -11,6 +11,8 @@ pub struct Script {
     pub count: u16,
     /// Ten bytes each: id, attack, decay, sustain, release, priority; big-endian.
     pub requests: Vec<u8>,
+    /// Twelve bytes each: a label, then a request.
+    pub left: Vec<u8>,
     /// PolyBLEP on voice 0, after the requests, where it is not 0.
     pub blep_hz: u32,
 }
@@ -28,6 +30,8 @@ pub trait Side {
     fn write(given: &Given, out: &mut [u8]) -> usize;
     fn play(script: &Script) -> usize;
     fn mono(script: &Script, out: &mut [i16]) -> usize;
+    /// The same while requests wait, for which no voice falls free.
+    fn waiting(script: &Script, out: &mut [i16]) -> usize;
     fn stereo(script: &Script, out: &mut [i16]) -> usize;
     fn duty(script: &Script, out: &mut [u16]) -> usize;
 }
@@ -41,6 +45,7 @@ pub enum Job {
     Play(usize),
     /// This many frames.
     Mono(usize),
+    Waiting(usize),
     Stereo(usize),
     Duty(usize),
 }
@@ -59,7 +64,7 @@ impl Answer {
     /// With cells for the job.
     pub fn to(job: &Job) -> Answer {
         let (pcm, duty) = match *job {
-            Job::Mono(frames) => (frames, 0),
+            Job::Mono(frames) | Job::Waiting(frames) => (frames, 0),
             Job::Stereo(frames) => (2 * frames, 0),
             Job::Duty(frames) => (0, frames),
             Job::Find(..) | Job::Write(..) | Job::Play(_) => (0, 0),
@@ -119,6 +124,7 @@ pub fn run<S: Side>(job: &Job, script: &Script, answer: &mut Answer) {
             }
         }
         Job::Mono(_) => answer.number = S::mono(script, &mut answer.pcm),
+        Job::Waiting(_) => answer.number = S::waiting(script, &mut answer.pcm),
         Job::Stereo(_) => answer.number = S::stereo(script, &mut answer.pcm),
         Job::Duty(_) => answer.number = S::duty(script, &mut answer.duty),
     }

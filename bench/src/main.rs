@@ -114,10 +114,12 @@ fn main() {
     let mut words = std::env::args().skip(1);
     let command = words.next().unwrap_or_default();
     let name = words.next().unwrap_or_default();
-    for case in cases::all()
-        .iter()
-        .filter(|case| case.name.starts_with(&name))
-    {
+    // a name may begin another, and one job is to be counted alone
+    let is_asked = |case: &&Case| match command.as_str() {
+        "time" => case.name.starts_with(&name),
+        _ => case.name == name,
+    };
+    for case in cases::all().iter().filter(is_asked) {
         match command.as_str() {
             "time" => {
                 compare(case);

@@ -109,6 +109,12 @@ impl Side for Original {
             .fill_pcm_i16_buffer(out))
     }
 
+    /// The original has no line, and none could go in.
+    #[inline(never)]
+    fn waiting(script: &Script, out: &mut [i16]) -> usize {
+        Self::mono(script, out)
+    }
+
     #[inline(never)]
     fn stereo(script: &Script, out: &mut [i16]) -> usize {
         voices!(script, panned, |e: &mut AudioEngine<'_, _>| e

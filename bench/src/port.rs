@@ -2,7 +2,7 @@
 
 use super::library;
 use crate::job::{Given, Script, Side};
-use birchjack::raw::birchjack_write_bank;
+use birchjack::raw::{birchjack_waiting_pcm_i16, birchjack_write_bank};
 
 pub struct Port;
 
@@ -91,6 +91,37 @@ impl Side for Port {
                 out.len(),
             )
         };
+        written(number, out.len())
+    }
+
+    /// Of the present box, whichever the others are of: document 01's has no line.
+    fn waiting(script: &Script, out: &mut [i16]) -> usize {
+        let (bank, requests, left) = (&script.bank, &script.requests, &script.left);
+        let (mut numbers, mut labels, mut count, mut dropped) = ([1; 32], [0; 32], 0, [0; 2]);
+        // SAFETY: as above.
+        let number = unsafe {
+            birchjack_waiting_pcm_i16(
+                script.n,
+                false,
+                GAIN,
+                bank.as_ptr(),
+                bank.len(),
+                script.rate,
+                script.count,
+                requests.as_ptr(),
+                requests.len(),
+                left.as_ptr(),
+                left.len(),
+                numbers.as_mut_ptr(),
+                numbers.len(),
+                out.as_mut_ptr(),
+                out.len(),
+                &mut labels,
+                &mut count,
+                &mut dropped,
+            )
+        };
+        assert!(numbers == [0; 32] && count == 32, "all 32 wait");
         written(number, out.len())
     }
 

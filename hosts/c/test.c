@@ -272,6 +272,56 @@ static void frames(void) {
     CHECK(memcmp(stereo, mono, sizeof mono) != 0);
 }
 
+/* The ring, then requests left under labels: the ring at priorities 4, 5 and, for an id that the bank has not, 9, and one under a label that waits. */
+static void waiting(void) {
+    static const uint8_t more[4][3] = {{100, 7, 4}, {200, 7, 5}, {30, 8, 9}, {200, 7, 7}};
+    uint8_t left[48], numbers[5];
+    for (int i = 0; i < 4; i++) {
+        uint8_t *l = left + 12 * i;
+        l[0] = 0;
+        l[1] = more[i][0];
+        memcpy(l + 2, ring, 10);
+        l[3] = more[i][1];
+        l[11] = more[i][2];
+    }
+    int16_t mono[33], both[33];
+    uint16_t labels[32], dropped[2];
+    size_t count = 55;
+    uint8_t asked[20];
+    memcpy(asked, ring, 10);
+    memcpy(asked + 10, left + 14, 10);
+    numbers[4] = 55;
+    /* no voice is free: all wait, and the ring sounds alone */
+    CHECK(birchjack_waiting_pcm_i16(1, false, 255, bell, 28, 8000, 1, ring, 10, left, 48, numbers, 5, mono, 33, &labels, &count, &dropped) == 0);
+    CHECK(numbers[0] == 0 && numbers[1] == 0 && numbers[2] == 0 && numbers[3] == BIRCHJACK_LABEL_WAITING && numbers[4] == 55);
+    CHECK(count == 3 && labels[0] == 30 && labels[1] == 200 && labels[2] == 100 && labels[3] == 0 && labels[31] == 0);
+    CHECK(dropped[0] == 0 && dropped[1] == 0);
+    CHECK(birchjack_pcm_i16(1, false, 255, bell, 28, 8000, 1, ring, 10, BIRCHJACK_NO_POLYBLEP, 0, 0, both, 33) == 0);
+    CHECK(memcmp(mono, both, sizeof mono) == 0);
+    /* a voice is free: the unknown one is dropped, and the one at priority 5 goes in; eleven bytes at the end are none */
+    CHECK(birchjack_waiting_pcm_i16(2, false, 255, bell, 28, 8000, 1, ring, 10, left, 47, numbers, 1, mono, 33, &labels, &count, &dropped) == 0);
+    CHECK(count == 1 && labels[0] == 100 && labels[1] == 0);
+    CHECK(dropped[0] == BIRCHJACK_EFFECT_NOT_FOUND && dropped[1] == 30);
+    CHECK(birchjack_pcm_i16(2, false, 255, bell, 28, 8000, 1, asked, 20, BIRCHJACK_NO_POLYBLEP, 0, 0, both, 33) == 0);
+    CHECK(memcmp(mono, both, sizeof mono) == 0);
+
+    /* 33 labels, and the first again */
+    uint8_t many[34 * 12], told[34];
+    for (int i = 0; i < 34; i++) {
+        memcpy(many + 12 * i, left, 12);
+        many[12 * i + 1] = (uint8_t)(i % 33);
+    }
+    CHECK(birchjack_waiting_pcm_i16(1, false, 255, bell, 28, 8000, 1, ring, 10, many, sizeof many, told, 34, mono, 1, &labels, &count, &dropped) == 0);
+    CHECK(count == 32 && told[31] == 0 && told[32] == BIRCHJACK_LINE_FULL && told[33] == BIRCHJACK_LABEL_WAITING);
+    for (uint16_t i = 0; i < 32; i++) {
+        CHECK(labels[i] == i);
+    }
+    told[0] = 55;
+    count = 55;
+    CHECK(birchjack_waiting_pcm_i16(17, false, 255, bell, 28, 8000, 1, ring, 10, many, 12, told, 34, mono, 1, &labels, &count, &dropped) == BIRCHJACK_VOICE_COUNT);
+    CHECK(told[0] == 55 && count == 55 && labels[31] == 31);
+}
+
 static void refused_frames(void) {
     int16_t pcm[3] = {55, 55, 55};
     uint16_t duty[3] = {55, 55, 55};
@@ -338,6 +388,7 @@ int main(void) {
     writing();
     requests();
     frames();
+    waiting();
     refused_frames();
     scripts();
     printf("c: %d checks\n", checks);

@@ -131,6 +131,21 @@ fn ranks_that_look_like_a_bad_line() {
     assert_eq!(after(&[], &[]), "1 0 0\n");
 }
 
+/// Each of the records of requests that wait prints one line, none of which looks like one to a bad line; a box that has them not answers with one.
+#[test]
+fn requests_that_wait() {
+    let present = &OPEN.replacen("10", "70", 1);
+    let leave = &format!("74FFFF00{}", &PLAY[2..]);
+    let script = [leave, "76", "77", "75FFFF", "78", "19", "7A"];
+    let answers = ["00", "01FFFF", "01FFFF", "00", "0AFFFF", "FFFF"];
+    let after = |open, answers: &[&str]| {
+        let script = [&[open], &script[..]].concat();
+        count("waiting", &script, &[&["00"], answers].concat())
+    };
+    assert_eq!(after(present, &answers), "8 0 0\n");
+    assert_eq!(after(OPEN, &["FFFF"]), "2 0 0\n");
+}
+
 #[test]
 fn the_first_difference_is_shown() {
     let script = format!("{OPEN}\n19\n30\n12\n{PLAY}\n1D\n");

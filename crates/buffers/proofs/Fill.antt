@@ -11,6 +11,13 @@ use Rattle.laws.specs.Runs.{after, given}
 use Rattle.laws.proofs.Lists.{sets-append}
 use Rattle.laws.proofs.Runs.{after-parts, given-parts}
 
+module _ {State A : Type 0} (step : State → State) (gives : State → List A) (width : ℕ) (wide : (s : State) → length (gives s) ≡ width) where
+  -- so many frames give so many cells
+  pub length-given : (n : ℕ) (s : State) → length (given step gives n s) ≡ n * width
+  unfolding given
+  length-given zero s = rw zero-mul
+  length-given (suc n) s = rw (length-append, wide s, length-given n (step s), suc-mul) (omega arith)
+
 module _ {State A : Type 0} (Good : State → Type 0) (step : State → State) (gives : State → List A) (width : ℕ) (m : State) (out₀ : List A) where
   -- blocks so far: the state s, and `at` cells written from the front on
   pub record Filling (s : State) (at : ℕ) (out : List A) : Type 0 where
@@ -28,18 +35,12 @@ module _ {State A : Type 0} (Good : State → Type 0) (step : State → State) (
   filling-long f = ap length (f .content) ∙ length-sets out₀ 0 (given step gives (f .frames) m)
 
   module _ (wide : (s : State) → length (gives s) ≡ width) where
-    -- so many frames give so many cells
-    length-given : (n : ℕ) (s : State) → length (given step gives n s) ≡ n * width
-    unfolding given
-    length-given zero s = rw zero-mul
-    length-given (suc n) s = rw (length-append, wide s, length-given n (step s), suc-mul) (omega arith)
-
     -- one block more
     pub filling-turn : {s t : State} {at k : ℕ} {out is cells : List A} (n : ℕ) → Filling s at out → Made Good (after step n s) t → cells ≡ given step gives n s → k ≡ n * width → at + k ≤ length out₀
         → is ≡ sets out at cells → Filling t (at + k) is
     filling-turn {at = at} n f made gave e fits laid =
         let given₀ = given step gives (f .frames) m in
-        let l : at ≡ length given₀ = f .count ∙ sym (length-given (f .frames) m) in
+        let l : at ≡ length given₀ = f .count ∙ sym (length-given step gives width wide (f .frames) m) in
         record {
           frames = f .frames + n;
           count = rw (f .count, e, add-mul);
@@ -51,7 +52,7 @@ module _ {State A : Type 0} (Good : State → Type 0) (step : State → State) (
     -- and no more: the cells after them are as they were
     pub filling-end : {s : State} {at : ℕ} {out : List A} (f : Filling s at out) → out ≡ given step gives (f .frames) m ++ drop at out₀
     filling-end f =
-        let l = length-given (f .frames) m ∙ sym (f .count) in
+        let l = length-given step gives width wide (f .frames) m ∙ sym (f .count) in
         f .content ∙ rw (sets-eq (given step gives (f .frames) m) out₀ 0 (rw (zero-add, l) (f .fits)), zero-add, l)
 
 -- ---- each sample scaled

@@ -53,7 +53,7 @@ shape-counts Once n at len e h k = (omega arith, omega arith)
 shape-counts Doubled n at len e h k = (omega arith, omega arith)
 shape-counts Sides n at len e h k = (omega arith, omega arith)
 
-shape-wide : {A : Type 0} (f : ℤ → A) (z : Shape) (m : Present) → length (map f (rawBy z m)) ≡ wide z
+pub shape-wide : {A : Type 0} (f : ℤ → A) (z : Shape) (m : Present) → length (map f (rawBy z m)) ≡ wide z
 shape-wide f Once m = refl
 shape-wide f Doubled m = refl
 shape-wide f Sides m = refl
@@ -106,7 +106,7 @@ stepAt l = levelNext presentFrames l
 abbrev cellAt : Level → Present → List ℕ
 cellAt l = levelCell presentFrames l
 
-level-wide : (l : Level) (m : Present) → length (cellAt l m) ≡ 1
+pub level-wide : (l : Level) (m : Present) → length (cellAt l m) ≡ 1
 level-wide Duty m = refl
 level-wide U12 m = refl
 level-wide U16 m = refl

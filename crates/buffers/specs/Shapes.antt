@@ -8,6 +8,7 @@ use Rattle.block.specs.Blocks.{ValidInside}
 use Rattle.frame.specs.Frames.{monoFrame, dutyFrame, stereoFrame}
 use Rattle.frame.specs.Presents.{monoNext, dutyNext, stereoNext, pcmOf, dutyOf, leftSide, rightSide}
 use Rattle.frame.specs.Runs.{monoStep, dutyStep, stereoStep}
+use Rattle.marks.specs.Marks.{settled}
 use Rattle.marks.specs.declared.Present.{Present}
 use Rattle.mixer.specs.Mixers.{Valid}
 use Rattle.mixer.specs.declared.Mixer.{Mixer}
@@ -44,6 +45,19 @@ mixerFrames =
 abbrev pub presentFrames : Frames Present
 presentFrames =
     record { mono = monoNext; duty = dutyNext; stereo = stereoNext; pcm = pcmOf; level = dutyOf; left = leftSide; right = rightSide }
+
+-- the same, each frame settled: nothing stands beside a voice that it left inaudible
+abbrev pub settledFrames : Frames Present
+settledFrames =
+    record {
+      mono = λ p. settled (monoNext p);
+      duty = λ p. settled (dutyNext p);
+      stereo = λ p. settled (stereoNext p);
+      pcm = pcmOf;
+      level = dutyOf;
+      left = leftSide;
+      right = rightSide;
+    }
 
 -- ---- a shape: how many cells a frame has, its step and its samples
 abbrev pub wide : Shape → ℕ

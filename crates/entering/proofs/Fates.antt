@@ -90,7 +90,7 @@ get-take (suc n) (u ∷ vs) zero v e = e
 get-take (suc n) (u ∷ vs) (suc i) v e = get-take n vs i v e
 
 -- a voice that is audible is at no place that is given
-not-given : (m : Mixer) (i j : ℕ) (v : Voice) → FirstFree m i → getElem? (m .voices) j ≡ some v → audible v ≡ true → j ≡ i → ⊥
+pub not-given : (m : Mixer) (i j : ℕ) (v : Voice) → FirstFree m i → getElem? (m .voices) j ≡ some v → audible v ≡ true → j ≡ i → ⊥
 not-given m i j v f g a e =
     let k : getElem? (m .voices) i ≡ some (f .voice) = get-take (m .n) (m .voices) i (f .voice) (f .there) in
     let s : f .voice ≡ v = (let h = rw e at g in cc) in
@@ -156,10 +156,10 @@ goes bytes (w ∷ ws) p k h =
     rw (entered-busy bytes p k (w ∷ ws) e)
     (record { tried = []; tries = over; line = in-line-of (w ∷ ws); kept = refl; ends = inr e }))
 
--- the theorem
-pub enters : (bytes : List ℕ) (s : Lined) → Valid s → Enters bytes s (enteredIn bytes s)
-enters bytes s h =
-    let g = goes bytes (inLine (s .line)) (s .present) (s .kept) (omega (arith, h .present .inside .few, h .present .inside .full)) in
+-- the theorem, of a state that has its voices
+pub enters-in : (bytes : List ℕ) (s : Lined) → s .present .mixer .n ≤ length (s .present .mixer .voices) → Enters bytes s (enteredIn bytes s)
+enters-in bytes s h =
+    let g = goes bytes (inLine (s .line)) (s .present) (s .kept) h in
     let a = tries-alike bytes (g .tries) in
     record {
       tried = g .tried;
@@ -171,3 +171,6 @@ enters bytes s h =
       master = a .master;
       ringing = λ j v e f. tries-ringing bytes (g .tries) j v e f;
     }
+
+pub enters : (bytes : List ℕ) (s : Lined) → Valid s → Enters bytes s (enteredIn bytes s)
+enters bytes s h = enters-in bytes s (omega (arith, h .present .inside .few, h .present .inside .full))

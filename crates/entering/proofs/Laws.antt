@@ -1,12 +1,13 @@
 -- The start of a frame where nothing happens, and a turn of its loop. Assumes nothing.
 use Prim.Native.Nat.{ℕ, _≤_}
 use native.Mathlib.Omega.{arith}
-use lib.ListN.{length}
+use lib.ListN.{length, take}
 use mathlib.Core.Path.{_≡_, refl, ap, sym, _∙_}
 use mathlib.Core.Bool.{true, false}
 use mathlib.Core.List.{List, [], _∷_}
 use Rattle.marks.specs.declared.Present.{Present}
 use Rattle.requests.specs.Presents.{playedPresent}
+use Rattle.start.specs.declared.Request.{Request}
 use Rattle.waiting.specs.Lines as W
 use Rattle.waiting.specs.Lines.{inLine, lineOf, without, Apart, Falls}
 use Rattle.waiting.specs.declared.Kept.{Kept}
@@ -31,6 +32,23 @@ module _ (bytes : List ℕ) (p : Present) (k : Kept) where
   unfolding entered
   entered-busy [] e = refl
   entered-busy (w ∷ ws) e = rw e
+
+-- with none waiting nothing happens, whatever stands past the line's end
+pub none-enters : (bytes : List ℕ) (s : Lined) → s .line .count ≡ 0 → enteredIn bytes s ≡ lined (s .present) (s .kept) (lineOf [])
+none-enters bytes s e = ap (λ (n : ℕ). entered bytes (s .present) (s .kept) (take n (s .line .places))) e ∙ entered-none bytes (s .present) (s .kept)
+
+-- what a play request to a state with a free voice keeps, the start of a frame keeps
+module _ (bytes : List ℕ) (Q : Present → Type 0) (keeps : (p : Present) (r : Request) → voiceFree p ≡ true → Q p → Q (playedPresent p bytes r .present)) where
+  entered-keeps : (ws : List Waiting) (p : Present) (k : Kept) → Q p → Q (entered bytes p k ws .present)
+  entered-keeps [] p k h = rw (entered-none bytes p k) h
+  entered-keeps (w ∷ ws) p k h =
+      let q = playedPresent p bytes (w .request) in
+      by-test voiceFree p
+      (λ e. rw (entered-free bytes p k w ws e) (entered-keeps ws (q .present) (keptAfter (q .outcome) (w .label) k) (keeps p (w .request) e h)))
+      (λ e. rw (entered-busy bytes p k (w ∷ ws) e) h)
+
+  pub enter-keeps : (s : Lined) → Q (s .present) → Q (enteredIn bytes s .present)
+  enter-keeps s h = entered-keeps (inLine (s .line)) (s .present) (s .kept) h
 
 module _ (bytes : List ℕ) (s : Lined) (h : W.Valid (s .line)) where
   pub none-left : inLine (s .line) ≡ [] → enteredIn bytes s ≡ s

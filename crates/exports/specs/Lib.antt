@@ -6,7 +6,7 @@
 --     Signals   the evacuation pattern and its reader
 --     Banks     a bank that is set for one call
 --     Writing   a bank that is written
---     Plays     a box of the present rules that lives for one call; the rest of it is in `exports_parts`
+--     Waits     requests that are left to a box of the present rules that lives for one call; the rest of it is in `exports_play` and `exports_parts`
 pub mod Leaves
 pub mod Levels
 pub mod Lengths
@@ -14,4 +14,4 @@ pub mod Counting
 pub mod Signals
 pub mod Banks
 pub mod Writing
-pub mod Plays
+pub mod Waits

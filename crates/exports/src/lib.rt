@@ -7,4 +7,5 @@ mod levels;
 mod planned;
 mod plays;
 mod signals;
+mod waits;
 mod writing;

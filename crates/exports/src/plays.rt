@@ -3,39 +3,16 @@ ghost use Rattle.laws.specs.Made.{Made};
 ghost use Rattle.buffers.specs.Buffers.{toI16};
 ghost use Rattle.buffers.specs.declared.Level.the-variants.{Duty};
 ghost use Rattle.buffers.specs.declared.Shape.the-variants.{Once, Sides};
-ghost use Rattle.sounder.specs.Sounders.{ValidSounder, ValidSounderChanged};
+ghost use Rattle.sounder.specs.Sounders.{ValidSounder};
 ghost use Rattle.output.specs.declared.DutyMode.the-variants as M;
 ghost use Rattle.exports_parts.specs.Told.{Answers};
-ghost use Rattle.exports_parts.specs.Plays.{policyOf, modeOf, settings, Readies, readied, withPolyBlep, sounded, pannedFrom, cellsTold, levelsTold, playTold};
-ghost use Rattle.exports.specs.Plays.{told, calls};
-use config::AudioConfig;
+ghost use Rattle.exports_parts.specs.Plays.{policyOf, modeOf, settings, readied, withPolyBlep, sounded, pannedFrom, cellsTold, levelsTold};
+ghost use Rattle.exports_play.specs.Plays.{calls};
 use config::DEFAULT_PWM_PERIOD;
+use exports_play::ready;
 use mixer::Outcome;
 use output::DutyMode;
 use sounder::Sounder;
-use sounder::SounderChanged;
-
-// A box with its bank, or what turned it down.
-fn ready(
-    n: usize,
-    free_only: bool,
-    config: AudioConfig,
-    bytes: &[u8],
-    effect_count: u16,
-) -> SounderChanged
-    ensures { λ r. ⌜ Readies told ValidSounderChanged (readied calls n (policyOf «free_only») config (now (bytes .entry)) «effect_count») r ⌝ }
-{
-    let policy = exports_parts::policy_of(free_only);
-    let opened = Sounder::open(n, config, policy);
-    let outcome = opened.outcome;
-    match outcome {
-        Outcome::Refused(_) => opened,
-        Outcome::Done => {
-            let silent = opened.sounder;
-            silent.set_bank(bytes, config.sample_rate_hz, effect_count)
-        }
-    }
-}
 
 fn with_polyblep(s: Sounder, waveform: u8, freq_hz: u32, duration_ms: u16) -> Sounder
     requires { ⌜ ValidSounder s ⌝ }
@@ -80,34 +57,6 @@ fn panned(first: Sounder, pans: &[u8]) -> Sounder
     s
 }
 
-// Plays the requests: each one's outcome, and how many voices are audible then.
-#[no_mangle]
-pub extern "C" fn birchjack_play(
-    n: usize,
-    free_only: bool,
-    bytes: &[u8],
-    sample_rate_hz: u32,
-    effect_count: u16,
-    requests: &[u8],
-    outcomes: &mut [u16],
-    audible: &mut usize,
-) -> u8
-    ensures { λ r. ⌜ Answers (playTold calls (readied calls n (policyOf «free_only») (settings «sample_rate_hz» 1000 M.Linear 255) (now (bytes .entry)) «effect_count») (now (bytes .entry)) (now (requests .entry)) (now (outcomes .entry))) (now (outcomes .entry), now (audible .entry)) r (now (outcomes .exit), now (audible .exit)) ⌝ }
-{
-    let config = exports_parts::settings(sample_rate_hz, DEFAULT_PWM_PERIOD, DutyMode::Linear, 255);
-    let c = ready(n, free_only, config, bytes, effect_count);
-    let outcome = c.outcome;
-    match outcome {
-        Outcome::Refused(e) => e.number(),
-        Outcome::Done => {
-            let silent = c.sounder;
-            let played = silent.play_each(bytes, requests, outcomes);
-            *audible = played.active_voice_count();
-            0
-        }
-    }
-}
-
 // A mono frame in each cell.
 #[no_mangle]
 pub extern "C" fn birchjack_pcm_i16(
@@ -123,7 +72,7 @@ pub extern "C" fn birchjack_pcm_i16(
     polyblep_ms: u16,
     out: &mut [i16],
 ) -> u8
-    ensures { λ r. ⌜ Answers (cellsTold calls toI16 Once (readied calls n (policyOf «free_only») (settings «sample_rate_hz» 1000 M.Linear «master_gain_q8») (now (bytes .entry)) «effect_count») (sounded calls (now (bytes .entry)) (now (requests .entry)) «polyblep_waveform» «polyblep_hz» «polyblep_ms») (now (out .entry))) (now (out .entry)) r (now (out .exit)) ⌝ }
+    ensures { λ r. ⌜ Answers (cellsTold calls toI16 Once (now (bytes .entry)) (readied calls n (policyOf «free_only») (settings «sample_rate_hz» 1000 M.Linear «master_gain_q8») (now (bytes .entry)) «effect_count») (sounded calls (now (bytes .entry)) (now (requests .entry)) «polyblep_waveform» «polyblep_hz» «polyblep_ms») (now (out .entry))) (now (out .entry)) r (now (out .exit)) ⌝ }
 {
     let config = exports_parts::settings(
         sample_rate_hz,
@@ -145,7 +94,7 @@ pub extern "C" fn birchjack_pcm_i16(
                 polyblep_hz,
                 polyblep_ms,
             );
-            s.fill_pcm_i16_buffer(out);
+            s.fill_pcm_i16_buffer(bytes, out);
             0
         }
     }
@@ -167,7 +116,7 @@ pub extern "C" fn birchjack_stereo_i16(
     pans: &[u8],
     out: &mut [i16],
 ) -> u8
-    ensures { λ r. ⌜ Answers (cellsTold calls toI16 Sides (readied calls n (policyOf «free_only») (settings «sample_rate_hz» 1000 M.Linear «master_gain_q8») (now (bytes .entry)) «effect_count») (λ s. pannedFrom calls 0 (now (pans .entry)) (sounded calls (now (bytes .entry)) (now (requests .entry)) «polyblep_waveform» «polyblep_hz» «polyblep_ms» s)) (now (out .entry))) (now (out .entry)) r (now (out .exit)) ⌝ }
+    ensures { λ r. ⌜ Answers (cellsTold calls toI16 Sides (now (bytes .entry)) (readied calls n (policyOf «free_only») (settings «sample_rate_hz» 1000 M.Linear «master_gain_q8») (now (bytes .entry)) «effect_count») (λ s. pannedFrom calls 0 (now (pans .entry)) (sounded calls (now (bytes .entry)) (now (requests .entry)) «polyblep_waveform» «polyblep_hz» «polyblep_ms» s)) (now (out .entry))) (now (out .entry)) r (now (out .exit)) ⌝ }
 {
     let config = exports_parts::settings(
         sample_rate_hz,
@@ -190,7 +139,7 @@ pub extern "C" fn birchjack_stereo_i16(
                 polyblep_ms,
             );
             let p = panned(s, pans);
-            p.fill_stereo_panned_i16_buffer(out);
+            p.fill_stereo_panned_i16_buffer(bytes, out);
             0
         }
     }
@@ -214,7 +163,7 @@ pub extern "C" fn birchjack_duty(
     polyblep_ms: u16,
     out: &mut [u16],
 ) -> u8
-    ensures { λ r. ⌜ Answers (levelsTold calls Duty (readied calls n (policyOf «free_only») (settings «sample_rate_hz» period (modeOf shaped «second_order») «master_gain_q8») (now (bytes .entry)) «effect_count») (sounded calls (now (bytes .entry)) (now (requests .entry)) «polyblep_waveform» «polyblep_hz» «polyblep_ms») (now (out .entry))) (now (out .entry)) r (now (out .exit)) ⌝ }
+    ensures { λ r. ⌜ Answers (levelsTold calls Duty (now (bytes .entry)) (readied calls n (policyOf «free_only») (settings «sample_rate_hz» period (modeOf shaped «second_order») «master_gain_q8») (now (bytes .entry)) «effect_count») (sounded calls (now (bytes .entry)) (now (requests .entry)) «polyblep_waveform» «polyblep_hz» «polyblep_ms») (now (out .entry))) (now (out .entry)) r (now (out .exit)) ⌝ }
 {
     let mode = exports_parts::mode_of(shaped, second_order);
     let config = exports_parts::settings(sample_rate_hz, period, mode, master_gain_q8);
@@ -232,7 +181,7 @@ pub extern "C" fn birchjack_duty(
                 polyblep_hz,
                 polyblep_ms,
             );
-            s.fill_duty_buffer(out);
+            s.fill_duty_buffer(bytes, out);
             0
         }
     }

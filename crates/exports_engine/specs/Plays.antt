@@ -22,5 +22,5 @@ calls =
       polyBleped = λ e hz ms waveform. boxed (polyBleped (e .state) hz ms waveform);
       panned = λ e i pan. boxed (panned (e .state) i pan);
       state = λ e. e .state;
-      frames = mixerFrames;
+      frames = λ bytes. mixerFrames;
     }

@@ -123,7 +123,7 @@ pub extern "C" fn birchjack_01_pcm_i16(
     polyblep_ms: u16,
     out: &mut [i16],
 ) -> u8
-    ensures { λ r. ⌜ Answers (cellsTold calls toI16 Once (readied calls n (policyOf «free_only») (settings «sample_rate_hz» 1000 M.Linear «master_gain_q8») (now (bytes .entry)) «effect_count») (sounded calls (now (bytes .entry)) (now (requests .entry)) «polyblep_waveform» «polyblep_hz» «polyblep_ms») (now (out .entry))) (now (out .entry)) r (now (out .exit)) ⌝ }
+    ensures { λ r. ⌜ Answers (cellsTold calls toI16 Once (now (bytes .entry)) (readied calls n (policyOf «free_only») (settings «sample_rate_hz» 1000 M.Linear «master_gain_q8») (now (bytes .entry)) «effect_count») (sounded calls (now (bytes .entry)) (now (requests .entry)) «polyblep_waveform» «polyblep_hz» «polyblep_ms») (now (out .entry))) (now (out .entry)) r (now (out .exit)) ⌝ }
 {
     let config = exports_parts::settings(
         sample_rate_hz,
@@ -167,7 +167,7 @@ pub extern "C" fn birchjack_01_stereo_i16(
     pans: &[u8],
     out: &mut [i16],
 ) -> u8
-    ensures { λ r. ⌜ Answers (cellsTold calls toI16 Sides (readied calls n (policyOf «free_only») (settings «sample_rate_hz» 1000 M.Linear «master_gain_q8») (now (bytes .entry)) «effect_count») (λ s. pannedFrom calls 0 (now (pans .entry)) (sounded calls (now (bytes .entry)) (now (requests .entry)) «polyblep_waveform» «polyblep_hz» «polyblep_ms» s)) (now (out .entry))) (now (out .entry)) r (now (out .exit)) ⌝ }
+    ensures { λ r. ⌜ Answers (cellsTold calls toI16 Sides (now (bytes .entry)) (readied calls n (policyOf «free_only») (settings «sample_rate_hz» 1000 M.Linear «master_gain_q8») (now (bytes .entry)) «effect_count») (λ s. pannedFrom calls 0 (now (pans .entry)) (sounded calls (now (bytes .entry)) (now (requests .entry)) «polyblep_waveform» «polyblep_hz» «polyblep_ms» s)) (now (out .entry))) (now (out .entry)) r (now (out .exit)) ⌝ }
 {
     let config = exports_parts::settings(
         sample_rate_hz,
@@ -214,7 +214,7 @@ pub extern "C" fn birchjack_01_duty(
     polyblep_ms: u16,
     out: &mut [u16],
 ) -> u8
-    ensures { λ r. ⌜ Answers (levelsTold calls Duty (readied calls n (policyOf «free_only») (settings «sample_rate_hz» period (modeOf shaped «second_order») «master_gain_q8») (now (bytes .entry)) «effect_count») (sounded calls (now (bytes .entry)) (now (requests .entry)) «polyblep_waveform» «polyblep_hz» «polyblep_ms») (now (out .entry))) (now (out .entry)) r (now (out .exit)) ⌝ }
+    ensures { λ r. ⌜ Answers (levelsTold calls Duty (now (bytes .entry)) (readied calls n (policyOf «free_only») (settings «sample_rate_hz» period (modeOf shaped «second_order») «master_gain_q8») (now (bytes .entry)) «effect_count») (sounded calls (now (bytes .entry)) (now (requests .entry)) «polyblep_waveform» «polyblep_hz» «polyblep_ms») (now (out .entry))) (now (out .entry)) r (now (out .exit)) ⌝ }
 {
     let mode = exports_parts::mode_of(shaped, second_order);
     let config = exports_parts::settings(sample_rate_hz, period, mode, master_gain_q8);

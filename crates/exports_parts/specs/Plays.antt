@@ -47,7 +47,8 @@ pub record Calls (Box State : Type 0) : Type 0 where
   pub polyBleped : Box → ℕ → ℕ → PolyBlepWaveform → Box
   pub panned : Box → ℕ → ℕ → Box
   pub state : Box → State
-  pub frames : Frames State
+  -- lent the bank's bytes, which document 01's box does not look at
+  pub frames : List ℕ → Frames State
 
 -- what readying promises: what it tells, and that the box in it is one that its calls gave back
 pub record Readies {Box Changed : Type 0} (told : Changed → Told Box) (Valid : Changed → Type 0) (t : Told Box) (r : Changed) : Type 0 where
@@ -73,20 +74,21 @@ module _ {Box State : Type 0} (b : Calls Box State) where
   pannedFrom i (pan ∷ pans) s = pannedFrom (suc i) pans (b .panned s i pan)
 
   -- the cells of a buffer of frames by their shape and scale, of a box that sounds so, or the refusal; those after them as they were
-  abbrev pub cellsTold : {A : Type 0} → (ℤ → A) → Shape → Told Box → (Box → Box) → List A → Told (List A)
-  cellsTold scale shape ready sound cells =
+  abbrev pub cellsTold : {A : Type 0} → (ℤ → A) → Shape → List ℕ → Told Box → (Box → Box) → List A → Told (List A)
+  cellsTold scale shape bytes ready sound cells =
       andThen ready
       (λ s.
       value
-      (given (shapeStep (b .frames) shape) (λ f. map scale (shapeRaw (b .frames) shape f)) (framesIn shape (length cells)) (b .state (sound s))
+      (given (shapeStep (b .frames bytes) shape) (λ f. map scale (shapeRaw (b .frames bytes) shape f)) (framesIn shape (length cells)) (b .state (sound s))
       ++ drop (cellsIn shape (length cells)) cells))
 
   -- the same of cells without a sign, by their level
-  abbrev pub levelsTold : Level → Told Box → (Box → Box) → List ℕ → Told (List ℕ)
-  levelsTold level ready sound cells =
+  abbrev pub levelsTold : Level → List ℕ → Told Box → (Box → Box) → List ℕ → Told (List ℕ)
+  levelsTold level bytes ready sound cells =
       andThen ready
       (λ s.
-      value (given (levelNext (b .frames) level) (levelCell (b .frames) level) (length cells) (b .state (sound s)) ++ drop (length cells) cells))
+      value
+      (given (levelNext (b .frames bytes) level) (levelCell (b .frames bytes) level) (length cells) (b .state (sound s)) ++ drop (length cells) cells))
 
   -- each request's outcome in the cells from the front on, as far as there are cells, and how many voices are audible then
   abbrev pub playTold : Told Box → List ℕ → List ℕ → List ℕ → Told (List ℕ × ℕ)

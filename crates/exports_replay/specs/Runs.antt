@@ -45,7 +45,7 @@ answers script = toldBy (λ s cells l. answered s cells l .text) script
 
 -- their sound
 abbrev pub sounds : List ℕ → List ℤ
-sounds script = toldBy (λ s cells l. soundOf s l) script
+sounds script = toldBy (λ s cells l. soundOf s (take (s .lent) cells) l) script
 
 -- a length as a usize has it
 abbrev pub capped : ℕ → ℕ

@@ -52,7 +52,7 @@ pub fn sound(script: &[u8], out: &mut [i16]) -> Ran
     while good && at < script.len() {
         let line = cut::line_at(script, at);
         let end = line.end;
-        let n = render_sounds::sound(&script[at..end], s, &mut cells);
+        let n = render_sounds::sound(&script[at..end], s, &lent, &mut cells);
         put::samples(&cells[..n], out, len);
         len = put::plus(len, n);
         let a = replay_session::answer(&script[at..end], s, &mut lent, &mut text);

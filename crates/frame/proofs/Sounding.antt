@@ -30,7 +30,7 @@ use Rattle.frame.specs.Sounding.{advancedState, givesAt, givesPair}
 use Rattle.frame.proofs.Alike.{heard-voice, rule-alike, settling-alike, framed-full}
 use Rattle.frame.proofs.Ends.{taken-heard}
 use Rattle.frame.proofs.Settling.{ticked-any, sample-any, pair-any}
-use Rattle.frame.proofs.Sized.{Ready}
+use Rattle.frame.proofs.Sized.{Sized}
 use Rattle.frame.proofs.Voices.{getD-mapFirst, framed-at}
 use Rattle.frame.proofs.Whole.{still-mixer, still-marks}
 
@@ -80,7 +80,7 @@ pub record Runs (o v : Voice) (w : Bool) (p : Present) : Type 0 where
   pub rule : audible v ≡ true → ruleAt (p .marks) 0 ≡ w
 
 -- what can be heard by itself after a frame, could before
-framed-heard : (v : Voice) → audible (R.framed true v) ≡ true → audible v ≡ true
+pub framed-heard : (v : Voice) → audible (R.framed true v) ≡ true → audible v ≡ true
 framed-heard v h = go (audible v) refl
   where
     go : (t : Bool) → audible v ≡ t → audible v ≡ true
@@ -92,7 +92,7 @@ module _ {o v : Voice} {w : Bool} (p : Present) (r : Runs o v w p) where
   runs-heard = ap audible (r .voice) ∙ taken-heard o v
 
   -- such a state's advance is itself
-  runs-still : advancedState p ≡ p
+  pub runs-still : advancedState p ≡ p
   runs-still = rw (still-mixer (p .marks .«sounds_on») (p .mixer) (r .still), still-marks (p .mixer) (p .marks) (r .still))
 
   ticks : voiceAt (enveloped (p .mixer)) 0 ≡ tickedVoice (atRate o v)
@@ -182,19 +182,19 @@ ended-rule [] d h = absurd (omega arith)
 ended-rule (k ∷ []) d h = absurd (omega arith)
 ended-rule (k ∷ l ∷ ks) d h = refl
 
-pub ends-runs : (p : Present) → Ready p → p .mixer .«crossfade_active» ≡ true → nextT (p .mixer) ≡ 255 → p .marks .«sounds_on» ≡ true
+pub ends-runs : (p : Present) → Sized (p .mixer) → length (p .marks .voices) ≡ 16 → p .mixer .«crossfade_active» ≡ true → nextT (p .mixer) ≡ 255 → p .marks .«sounds_on» ≡ true
     → Runs (voiceAt (p .mixer) 0) (voiceAt (p .mixer) 1) (ruleAt (p .marks) 1) (advancedState p)
 unfolding advancedBy marksAdvanced fadeEndedWith envelopeAfter
-ends-runs p h a t on =
+ends-runs p h g a t on =
     let m = p .mixer in
-    let two = h .sized .fade a in
+    let two = h .fade a in
     let e : eqb (nextT m) 255 ≡ true = eq-eqb (nextT m) 255 t in
     rw (a, e, on)
     (record {
       still = refl;
       there = omega arith;
-      full = simp length-set (h .sized .full);
-      marked = simp length-set (h .marked);
-      voice = taken-first (voiceAt m 1 .adsr) (m .voices) (stoppedVoice (voiceAt m 1)) (omega (arith, h .sized .full));
-      rule = λ g. ap (λ (k : Mark). k .whole) (ended-rule (p .marks .voices) _ (omega (arith, h .marked)));
+      full = simp length-set (h .full);
+      marked = simp length-set g;
+      voice = taken-first (voiceAt m 1 .adsr) (m .voices) (stoppedVoice (voiceAt m 1)) (omega (arith, h .full));
+      rule = λ i. ap (λ (k : Mark). k .whole) (ended-rule (p .marks .voices) _ (omega (arith, g)));
     })

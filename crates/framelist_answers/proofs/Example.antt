@@ -1,5 +1,6 @@
 -- The definitions print the example, computed. Assumes nothing.
 use mathlib.Core.Path.{_≡_, refl}
+use Rattle.entering.specs.Entering.{entered}
 use Rattle.envelope.specs.Adsrs as A
 use Rattle.frame.specs.Fades.{advancedBy, marksAdvanced}
 use Rattle.frame.specs.Frames.{enveloped, sampled, total, givenCount, averaged, monoMix, monoFrameBy, dutyFrameBy}
@@ -20,5 +21,5 @@ use Rattle.framelist_answers.specs.Example.{exampleLines, exampleText}
 use Rattle.framelist_answers.specs.Lines.{started, lineAnswer, printed, framelist}
 
 pub prints : framelist exampleLines ≡ exampleText
-unfolding A.active A.beganDecay A.triggered A.nextLevel A.advancedToward A.ticked advancedBy marksAdvanced enveloped sampled total givenCount averaged monoMix monoFrameBy dutyFrameBy mapAt between allDigits digitOf hexOf after given heldTo older settledBy settled M.fresh M.opened duty mapped P.firstSounding P.toned startedVoice toneVoice durationOf lessOne startedTone steppedTone activeSource steppedSource silentVoice triggeredVoice audible tickedVoice steppedVoice sampleBy started lineAnswer printed
+unfolding entered A.active A.beganDecay A.triggered A.nextLevel A.advancedToward A.ticked advancedBy marksAdvanced enveloped sampled total givenCount averaged monoMix monoFrameBy dutyFrameBy mapAt between allDigits digitOf hexOf after given heldTo older settledBy settled M.fresh M.opened duty mapped P.firstSounding P.toned startedVoice toneVoice durationOf lessOne startedTone steppedTone activeSource steppedSource silentVoice triggeredVoice audible tickedVoice steppedVoice sampleBy started lineAnswer printed
 prints = refl

@@ -49,9 +49,9 @@ toneAnswer s l =
 abbrev pub isFrames : List ℕ → Bool
 isFrames l = eqb (length l) 4 && eqb (byteAt l 0) 0x02
 
--- one frame, as `tick` gives it
+-- one frame, as `tick` gives it; no bank is lent, and none waits
 abbrev pub ticked : Sounder → SounderDuty
-ticked s = dutyBox (s .state)
+ticked s = dutyBox [] (s .state)
 
 abbrev pub next : Sounder → Sounder
 next s = ticked s .sounder

@@ -1,8 +1,9 @@
 // A list of lines, each a tone or a number of frames: one box of the present rules, and what is answered to each line.
 ghost use mathlib.Core.Path.{_≡_};
 ghost use Rattle.laws.specs.Made.{Made};
+ghost use Rattle.sounder.specs.Frames.{ValidDuty};
 ghost use Rattle.sounder.specs.Sounders.{ValidSounder};
-ghost use Rattle.framelist_answers.specs.Lines.{started, badAnswer, isTone, toneAnswer, isFrames, framesAnswer, lineAnswer, Told, Answers};
+ghost use Rattle.framelist_answers.specs.Lines.{started, badAnswer, isTone, toneAnswer, isFrames, ticked, framesAnswer, lineAnswer, Told, Answers};
 use config::AudioConfig;
 use hex::all_digits;
 use hex::byte_at;
@@ -15,6 +16,7 @@ use mixer::VoiceStealingPolicy;
 use output::DutyMode;
 use replay_fields::tone_waveform;
 use sounder::Sounder;
+use sounder::ticks::SounderDuty;
 
 // How many bytes the answer has, whether the run goes on, and the box after the line.
 pub struct Answered {
@@ -83,6 +85,15 @@ fn tone_answer(l: &[u8], s: Sounder, out: &mut [u8; 262144]) -> Answered
     }
 }
 
+// One frame; no bank is lent.
+fn ticked(s: Sounder) -> SounderDuty
+    requires { ⌜ ValidSounder s ⌝ }
+    ensures { λ r. ⌜ Made ValidDuty (ticked s) r ⌝ }
+{
+    let none = [0u8; 1];
+    s.tick(&none[..0])
+}
+
 // A frame's duty on a line of its own, so often.
 fn frames_answer(count: u8, s: Sounder, out: &mut [u8; 262144]) -> Answered
     requires { ⌜ ValidSounder s ⌝ }
@@ -92,7 +103,7 @@ fn frames_answer(count: u8, s: Sounder, out: &mut [u8; 262144]) -> Answered
     let mut at = 0;
     let mut left = count;
     while left > 0 {
-        let d = sounder.tick();
+        let d = ticked(sounder);
         let digits = put(out, at, d.duty as u64, 4);
         at = end_line(out, digits);
         let after = d.sounder;

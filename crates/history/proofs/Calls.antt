@@ -15,6 +15,9 @@ use Rattle.bank.specs.Search.{foundGiven}
 use Rattle.bank.specs.declared.EffectEntry.{EffectEntry}
 use Rattle.bank.specs.declared.SoundBank.{SoundBank}
 use Rattle.config.specs.declared.AudioConfig.{AudioConfig}
+use Rattle.entering.specs.Entering.{voiceFree, keptAfter, entered, enteredIn}
+use Rattle.entering.specs.declared.Lined.{Lined}
+use Rattle.entering.proofs.Laws.{entered-none, entered-free, entered-busy}
 use Rattle.envelope.specs.declared.AdsrSpec.{AdsrSpec}
 use Rattle.error.specs.Told.{Told, value, refused}
 use Rattle.frame.specs.Lasting.{Step, frame, call, afterAll}
@@ -37,7 +40,7 @@ use Rattle.play.specs.Fades as F
 use Rattle.play.specs.Plays as P
 use Rattle.play.proofs.Laws.{OnOrNot, turned, began, on-or-not}
 use Rattle.polyblep.specs.declared.PolyBlepWaveform.{PolyBlepWaveform}
-use Rattle.requests.specs.Presents.{leftBy}
+use Rattle.requests.specs.Presents.{leftBy, playedPresent}
 use Rattle.start.specs.Starts.{requestStartUnder, entryStartUnder}
 use Rattle.start.specs.declared.Request.{Request}
 use Rattle.steps.specs.Steps as S
@@ -45,13 +48,17 @@ use Rattle.steps.specs.Steps.{Frame, mono, duty, stereo, play, tone, polyBlep, 
 use Rattle.tone.specs.declared.Waveform.{Waveform}
 use Rattle.voice.specs.Voices.{audible, withPan, silentVoice, releasedVoice, stoppedVoice}
 use Rattle.voice.specs.declared.Voice.{Voice}
+use Rattle.waiting.specs.Lines.{inLine}
+use Rattle.waiting.specs.declared.Kept as W
+use Rattle.waiting.specs.declared.Waiting.{Waiting}
+use Rattle.waiting.proofs.Lists.{by-test}
 use Rattle.sounder.specs.Calls.{opened, fadeMarks, bankMarks}
-use Rattle.sounder.specs.Steps.{framed, Call, by01, fadeOn, called01, called, box}
+use Rattle.sounder.specs.Steps.{frameStep, Lent, framed, Call, by01, fadeOn, leave, withdraw, called01, called, box}
 use Rattle.sounder.specs.declared.Sounder.{Sounder}
 use Rattle.sounder.proofs.Heard.{Others, HeardBy, toned-others, bleped-others, faded-heard, on-heard}
 use Rattle.sounder.proofs.Settled.{silent, opened-silent, all-stopped}
 use Rattle.sounder.proofs.Valid.{panned-alike}
-use Rattle.history.specs.Histories.{History, unstarted, startedNow, handedNow, fadedNow, calledNow01, calledNow, framedNow, historyOf, ByHistory}
+use Rattle.history.specs.Histories.{History, unstarted, startedNow, handedNow, fadedNow, calledNow01, calledNow, enteredNow, advancedNow, framedNow, historyOf, ByHistory}
 use Rattle.history.proofs.Kept.{Kept, Rest, Past, by-history, settled-kept, mono-kept, duty-kept, stereo-kept, begun-kept, begun-by-kept, changed-kept, silent-kept}
 
 -- ---- play
@@ -241,43 +248,69 @@ unfolding M.stopped
 all-stopped-here m a = all-stopped (m .n) (m .voices) a
 
 -- ---- every call, every frame
-call-kept01 : (c : S.Call) (s : Sounder) (h : History) → Kept (s .state) h → Kept (called01 c s .state) (calledNow01 c s h)
+call-kept01 : (c : S.Call) (s : Sounder) (h : History) → Kept (s .state .present) h → Kept (called01 c s .state .present) (calledNow01 c s h)
 unfolding M.banked
-call-kept01 (play bytes r) s h k = played-kept (s .state) h bytes r k
+call-kept01 (play bytes r) s h k = played-kept (s .state .present) h bytes r k
 call-kept01 (tone hz ms w) s h k =
-    let m = s .state .mixer in
-    begun-kept (s .state) h 0 (P.toned m hz ms w) k (omega arith) (toned-sized m hz ms w (k .ready .sized)) (toned-rest m hz ms w (k .rest)) (toned-others m hz ms w)
+    let m = s .state .present .mixer in
+    begun-kept (s .state .present) h 0 (P.toned m hz ms w) k (omega arith) (toned-sized m hz ms w (k .ready .sized)) (toned-rest m hz ms w (k .rest)) (toned-others m hz ms w)
 call-kept01 (polyBlep hz ms w) s h k =
-    let m = s .state .mixer in
-    begun-kept (s .state) h 0 (P.polyBleped m hz ms w) k (omega arith) (bleped-sized m hz ms w (k .ready .sized)) (bleped-rest m hz ms w (k .rest)) (bleped-others m hz ms w)
-call-kept01 (bank rate count len) s h k = banked-kept (s .state) h (bankOf rate count len) k
-call-kept01 (pan i q) s h k = changed-kept (s .state) h (M.panned (s .state .mixer) i q) k (panned-sized (s .state .mixer) i q (k .ready .sized)) (panned-rest (s .state .mixer) i q (k .rest)) (panned-alike (s .state .mixer) i q)
-call-kept01 (masterGain gain) s h k = changed-kept (s .state) h (M.withMasterGain (s .state .mixer) gain) k (gained-sized (s .state .mixer) gain (k .ready .sized)) (gained-rest (s .state .mixer) gain (k .rest)) (gained-alike (s .state .mixer) gain)
+    let m = s .state .present .mixer in
+    begun-kept (s .state .present) h 0 (P.polyBleped m hz ms w) k (omega arith) (bleped-sized m hz ms w (k .ready .sized)) (bleped-rest m hz ms w (k .rest)) (bleped-others m hz ms w)
+call-kept01 (bank rate count len) s h k = banked-kept (s .state .present) h (bankOf rate count len) k
+call-kept01 (pan i q) s h k = changed-kept (s .state .present) h (M.panned (s .state .present .mixer) i q) k (panned-sized (s .state .present .mixer) i q (k .ready .sized)) (panned-rest (s .state .present .mixer) i q (k .rest)) (panned-alike (s .state .present .mixer) i q)
+call-kept01 (masterGain gain) s h k = changed-kept (s .state .present) h (M.withMasterGain (s .state .present .mixer) gain) k (gained-sized (s .state .present .mixer) gain (k .ready .sized)) (gained-rest (s .state .present .mixer) gain (k .rest)) (gained-alike (s .state .present .mixer) gain)
 call-kept01 stop s h k =
-    silent-kept (M.stopped (s .state .mixer)) _ true (s .state .marks .«sounds_on») (stopped-sized (s .state .mixer) (k .ready .sized)) (all-stopped-here (s .state .mixer) (k .rest)) refl
+    silent-kept (M.stopped (s .state .present .mixer)) _ true (s .state .present .marks .«sounds_on») (stopped-sized (s .state .present .mixer) (k .ready .sized)) (all-stopped-here (s .state .present .mixer) (k .rest)) refl
     (sym (k .alike .on))
     (sym (k .alike .marks .long) ∙ k .ready .marked) (k .past)
 call-kept01 (fade bytes id ms adsr) s h k =
-    let m = s .state .mixer in
-    faded-kept false (s .state) h (F.fadedUnder true m bytes id ms adsr) k (faded-sized m bytes id ms adsr (k .ready .sized)) (faded-rest m bytes id ms adsr (k .rest)) (faded-heard m bytes id ms adsr)
+    let m = s .state .present .mixer in
+    faded-kept false (s .state .present) h (F.fadedUnder true m bytes id ms adsr) k (faded-sized m bytes id ms adsr (k .ready .sized)) (faded-rest m bytes id ms adsr (k .rest)) (faded-heard m bytes id ms adsr)
 call-kept01 look s h k = k
 
-pub call-kept : (c : Call) (s : Sounder) (h : History) → Kept (s .state) h → Kept (called c s .state) (calledNow c s h)
+pub call-kept : (c : Call) (s : Sounder) (h : History) → Kept (s .state .present) h → Kept (called c s .state .present) (calledNow c s h)
 call-kept (by01 c) s h k = call-kept01 c s h k
 call-kept (fadeOn bytes id ms adsr) s h k =
-    let m = s .state .mixer in
-    faded-kept true (s .state) h (F.fadedOn m bytes id ms adsr) k (on-sized m bytes id ms adsr (k .ready .sized)) (on-rest m bytes id ms adsr (k .rest)) (on-heard m bytes id ms adsr)
+    let m = s .state .present .mixer in
+    faded-kept true (s .state .present) h (F.fadedOn m bytes id ms adsr) k (on-sized m bytes id ms adsr (k .ready .sized)) (on-rest m bytes id ms adsr (k .rest)) (on-heard m bytes id ms adsr)
+call-kept (leave label r) s h k = k
+call-kept (withdraw label) s h k = k
 
-frame-kept : (f : Frame) (s : Sounder) (h : History) → Kept (s .state) h → Kept (framed f s .state) (framedNow s h)
-frame-kept mono s h k = mono-kept (s .state) h k
-frame-kept duty s h k = duty-kept (s .state) h k
-frame-kept stereo s h k = stereo-kept (s .state) h k
+-- those that go in, one after another
+enter-kept : (bytes : List ℕ) (ws : List Waiting) (p : Present) (k : W.Kept) (h : History) → Kept p h → Kept (entered bytes p k ws .present) (enteredNow bytes p ws h)
+unfolding enteredNow
+enter-kept bytes [] p k h c = rw (entered-none bytes p k) c
+enter-kept bytes (w ∷ ws) p k h c =
+    let q = playedPresent p bytes (w .request) in
+    by-test voiceFree p
+    (λ e.
+    rw (entered-free bytes p k w ws e, e)
+    (enter-kept bytes ws (q .present) (keptAfter (q .outcome) (w .label) k) (handedNow (P.toldPlay (q .outcome)) h) (played-kept p h bytes (w .request) c)))
+    (λ e. rw (entered-busy bytes p k (w ∷ ws) e, e) c)
+
+frame-kept : (f : Lent) (s : Sounder) (h : History) → Kept (s .state .present) h → Kept (framed f s .state .present) (framedNow f s h)
+frame-kept f s h k = by-kind (f .kind)
+  where
+    e : Lined
+    e = enteredIn (f .bytes) (s .state)
+
+    g : History
+    g = enteredNow (f .bytes) (s .state .present) (inLine (s .state .line)) h
+
+    c : Kept (e .present) g
+    c = enter-kept (f .bytes) (inLine (s .state .line)) (s .state .present) (s .state .kept) h k
+
+    by-kind : (z : Frame) → Kept (frameStep z (f .bytes) (s .state) .present) (advancedNow (e .present) g)
+    by-kind mono = mono-kept (e .present) g c
+    by-kind duty = duty-kept (e .present) g c
+    by-kind stereo = stereo-kept (e .present) g c
 
 -- ---- in any order
-pub along : (ss : List (Step Frame Call)) (s : Sounder) (h : History) → Kept (s .state) h → Kept (afterAll box ss s .state) (historyOf ss s h)
+pub along : (ss : List (Step Lent Call)) (s : Sounder) (h : History) → Kept (s .state .present) h → Kept (afterAll box ss s .state .present) (historyOf ss s h)
 unfolding afterAll historyOf
 along [] s h k = k
-along (frame f ∷ ss) s h k = along ss (framed f s) (framedNow s h) (frame-kept f s h k)
+along (frame f ∷ ss) s h k = along ss (framed f s) (framedNow f s h) (frame-kept f s h k)
 along (call c ∷ ss) s h k = along ss (called c s) (calledNow c s h) (call-kept c s h k)
 
 opened-sized : (n : ℕ) (config : AudioConfig) (policy : VoiceStealingPolicy) → Sized (M.opened n config policy .mixer)
@@ -299,14 +332,14 @@ none-past i = go 16 i
     go (suc m) zero = omega arith
     go (suc m) (suc j) = go m j
 
-pub from-opening : (n : ℕ) (config : AudioConfig) (policy : VoiceStealingPolicy) (ss : List (Step Frame Call))
-    → let s = opened n config policy .sounder in Kept (afterAll box ss s .state) (historyOf ss s unstarted)
+pub from-opening : (n : ℕ) (config : AudioConfig) (policy : VoiceStealingPolicy) (ss : List (Step Lent Call))
+    → let s = opened n config policy .sounder in Kept (afterAll box ss s .state .present) (historyOf ss s unstarted)
 from-opening n config policy ss =
     let s = opened n config policy .sounder in
-    along ss s unstarted (silent-kept (s .state .mixer) unstarted true false (opened-sized n config policy) (opened-silent n config policy) refl refl refl none-past)
+    along ss s unstarted (silent-kept (s .state .present .mixer) unstarted true false (opened-sized n config policy) (opened-silent n config policy) refl refl refl none-past)
 
 -- "the ranks are those that start times would give": after calls and frames in any order, from an opening on
-pub by-starts : (n : ℕ) (config : AudioConfig) (policy : VoiceStealingPolicy) (ss : List (Step Frame Call))
+pub by-starts : (n : ℕ) (config : AudioConfig) (policy : VoiceStealingPolicy) (ss : List (Step Lent Call))
     → ByHistory (afterAll box ss (opened n config policy .sounder)) (historyOf ss (opened n config policy .sounder) unstarted)
 by-starts n config policy ss = by-history _ _ (from-opening n config policy ss)
 
@@ -317,15 +350,15 @@ kept-order : {p q : Present} {h g : History} → Kept p h → Kept q g → (i j 
 kept-order k l i j a b c d e f = l .alike .marks .order i j c d ∙ rw (e, f) (sym (k .alike .marks .order i j a b))
 
 -- after ss, and after ts more: voices audible at both times, started last at the same time
-pub same-order : (n : ℕ) (config : AudioConfig) (policy : VoiceStealingPolicy) (ss ts : List (Step Frame Call)) (i j : ℕ)
+pub same-order : (n : ℕ) (config : AudioConfig) (policy : VoiceStealingPolicy) (ss ts : List (Step Lent Call)) (i j : ℕ)
     → let s = opened n config policy .sounder in
     let before = afterAll box ss s in
     let then = historyOf ss s unstarted in
     let after = afterAll box ts before in
     let now = historyOf ts before then in
-    heardAt (heardOf (before .state)) i ≡ true → heardAt (heardOf (before .state)) j ≡ true → heardAt (heardOf (after .state)) i ≡ true → heardAt (heardOf (after .state)) j ≡ true
+    heardAt (heardOf (before .state .present)) i ≡ true → heardAt (heardOf (before .state .present)) j ≡ true → heardAt (heardOf (after .state .present)) i ≡ true → heardAt (heardOf (after .state .present)) j ≡ true
     → rankAt (now .marks .voices) i ≡ rankAt (then .marks .voices) i → rankAt (now .marks .voices) j ≡ rankAt (then .marks .voices) j
-    → ltb (rankAt (after .state .marks .voices) i) (rankAt (after .state .marks .voices) j) ≡ ltb (rankAt (before .state .marks .voices) i) (rankAt (before .state .marks .voices) j)
+    → ltb (rankAt (after .state .present .marks .voices) i) (rankAt (after .state .present .marks .voices) j) ≡ ltb (rankAt (before .state .present .marks .voices) i) (rankAt (before .state .present .marks .voices) j)
 same-order n config policy ss ts i j =
     let k = from-opening n config policy ss in
     kept-order k (along ts _ _ k) i j

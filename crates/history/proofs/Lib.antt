@@ -4,4 +4,6 @@
 --     Sounding a fade of the second call, from an opening on: after its count of frames the sound goes on: fade-sounds-on
 pub mod Kept
 pub mod Calls
+--     Waits    the line is what sorting afresh would give, and no request is lost: line-kept; with none waiting a frame is as before: as-before; leaving between play requests: plays-alone
 pub mod Sounding
+pub mod Waits

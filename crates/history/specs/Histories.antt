@@ -2,21 +2,26 @@
 -- keeps none, so nothing can run over. Assumes nothing.
 use Prim.Native.Nat.{ℕ, suc}
 use mathlib.Core.Path.{_≡_}
-use mathlib.Core.Bool.{Bool, true, false}
+use mathlib.Core.Bool.{Bool, true, false, cond}
 use mathlib.Core.List.{List, [], _∷_}
+use Rattle.entering.specs.Entering.{voiceFree, enteredIn}
 use Rattle.error.specs.Told.{Told, value, refused}
 use Rattle.frame.specs.Fades.{marksAdvanced}
 use Rattle.frame.specs.Lasting.{Step, frame, call}
 use Rattle.marks.specs.Marks.{noMarks, markedAt, beside, settled}
 use Rattle.marks.specs.declared.Marks.{Marks}
+use Rattle.marks.specs.declared.Present.{Present}
 use Rattle.mixer.specs.declared.Outcome.{Outcome}
 use Rattle.mixer.specs.declared.Outcome.the-variants as O
 use Rattle.play.specs.Plays.{toldPlay}
+use Rattle.requests.specs.Presents.{playedPresent}
 use Rattle.steps.specs.Steps as S
-use Rattle.steps.specs.Steps.{Frame, play, tone, polyBlep, bank, pan, masterGain, stop, fade, look}
+use Rattle.steps.specs.Steps.{play, tone, polyBlep, bank, pan, masterGain, stop, fade, look}
 use Rattle.sounder.specs.Calls.{played, begunBy, faded, fadedOn}
-use Rattle.sounder.specs.Steps.{framed, Call, by01, fadeOn, called}
+use Rattle.sounder.specs.Steps.{Lent, framed, Call, by01, fadeOn, leave, withdraw, called}
 use Rattle.sounder.specs.declared.Sounder.{Sounder}
+use Rattle.waiting.specs.Lines.{inLine}
+use Rattle.waiting.specs.declared.Waiting.{Waiting}
 
 -- beside each voice, in place of a rank, the time of its last start; and the time of the next one
 pub record History : Type 0 where
@@ -58,18 +63,31 @@ calledNow01 look s h = h
 abbrev pub calledNow : Call → Sounder → History → History
 calledNow (by01 c) s h = calledNow01 c s h
 calledNow (fadeOn bytes id ms adsr) s h = fadedNow true (fadedOn (s .state) bytes id ms adsr .outcome) h
+calledNow (leave label r) s h = h
+calledNow (withdraw label) s h = h
+
+-- a request that goes in at the start of a frame is a start, one after another while a voice is free
+unfoldable pub enteredNow : List ℕ → Present → List Waiting → History → History
+enteredNow bytes p [] h = h
+enteredNow bytes p (w ∷ ws) h =
+    let q = playedPresent p bytes (w .request) in
+    cond (voiceFree p) (enteredNow bytes (q .present) ws (handedNow (toldPlay (q .outcome)) h)) h
 
 -- "at a fade's end voice 0, if then audible, takes voice 1's place in age"
-abbrev pub framedNow : Sounder → History → History
-framedNow s h = record { marks = marksAdvanced (s .state .mixer) (h .marks); clock = h .clock }
+abbrev pub advancedNow : Present → History → History
+advancedNow p h = record { marks = marksAdvanced (p .mixer) (h .marks); clock = h .clock }
+
+-- "At the start of a frame, before the fade advances"
+abbrev pub framedNow : Lent → Sounder → History → History
+framedNow f s h = advancedNow (enteredIn (f .bytes) (s .state) .present) (enteredNow (f .bytes) (s .state .present) (inLine (s .state .line)) h)
 
 -- after calls and frames in any order
-unfoldable pub historyOf : List (Step Frame Call) → Sounder → History → History
+unfoldable pub historyOf : List (Step Lent Call) → Sounder → History → History
 historyOf [] s h = h
-historyOf (frame f ∷ ss) s h = historyOf ss (framed f s) (framedNow s h)
+historyOf (frame f ∷ ss) s h = historyOf ss (framed f s) (framedNow f s h)
 historyOf (call c ∷ ss) s h = historyOf ss (called c s) (calledNow c s h)
 
 -- the box is what its history says: beside an audible voice its rule, and how many audible voices were started before it; and which call began the
 -- last fade
 abbrev pub ByHistory : Sounder → History → Type 0
-ByHistory s h = settled (beside (s .state .mixer) (h .marks)) ≡ s .state
+ByHistory s h = settled (beside (s .state .present .mixer) (h .marks)) ≡ s .state .present

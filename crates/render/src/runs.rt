@@ -56,6 +56,12 @@ fn told(l: &[u8], answer: &[u8], before: Session, c: Clock)
     requires { ⌜ ValidSession before ⌝ }
 {
     print(render_account::tell(l, answer, before.held(), c));
+    print(render_account::waits::tell_waiting(l, answer, c));
+}
+
+// Who left the line while the line's frames were made.
+fn moved(before: Session, after: Session, c: Clock) {
+    print(render_account::waits::tell_moved(before.held(), after.held(), c));
 }
 
 // Answers a line and tells it in the account. A line that is no record ends the run.
@@ -100,6 +106,17 @@ fn heard(r: Run, rate: u32, cells: &[i16], n: usize, kept: &mut [u8; 65536]) -> 
     Run { place, file, ..r }
 }
 
+// A line that made frames: its answer, and who left the line in them.
+fn framed(r: Run, l: &[u8], before: Session, lent: &mut [u8; 4096], out: &mut [u8; 262144]) -> Run
+    requires { ⌜ ValidRun r ⌝ }
+    ensures { λ s. ⌜ ValidRun s ⌝ }
+{
+    let f = r.file;
+    let done = answered(r, l, lent, out);
+    moved(before, done.session, f.clock);
+    done
+}
+
 // One line: what it sounds like from here on, then what it does.
 fn line_done(
     r: Run,
@@ -113,13 +130,13 @@ fn line_done(
     ensures { λ s. ⌜ ValidRun s ⌝ }
 {
     let before = r.session;
-    let n = render_sounds::sound(l, before, cells);
+    let n = render_sounds::sound(l, before, &*lent, cells);
     if n == 0 {
         return answered(r, l, lent, out);
     }
     let h = heard(r, rate_of(before), &*cells, n, kept);
     if h.place.more {
-        answered(h, l, lent, out)
+        framed(h, l, before, lent, out)
     } else {
         h
     }

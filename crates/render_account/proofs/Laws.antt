@@ -1,11 +1,11 @@
 -- No line of the account is longer than a text holds. Assumes nothing.
-use Prim.Native.Nat.{ℕ, _*_, _≤_}
+use Prim.Native.Nat.{ℕ, _*_, _-_, _≤_}
 use mathlib.Core.Path.{refl}
 use mathlib.Core.Bool.{Bool, true, false}
 use mathlib.Core.List.{List, [], _++_}
 use native.Mathlib.Omega.{arith}
 use borrow.Author.Tests.{leb-true}
-use lib.Dec.{eqb}
+use lib.Dec.{eqb, leb}
 use lib.ListN.{length, length-append}
 use Rattle.config.specs.Config.{roundedUp, fadeStep}
 use Rattle.frame.specs.Lasting.{fadeCount}
@@ -17,9 +17,11 @@ use Rattle.voice.specs.Voices.{audible}
 use Rattle.mixer.specs.Mixers.{voiceRead}
 use Rattle.mixer.specs.declared.VoiceRead.{VoiceRead}
 use Rattle.mixer.specs.declared.VoiceRead.the-variants as R
-use Rattle.replay_box.specs.Boxes.{mixerOf}
+use Rattle.replay_box.specs.Boxes.{mixerOf, keptIn}
 use Rattle.replay_box.specs.declared.OpenBox.{OpenBox}
+use Rattle.waiting.specs.declared.Kept.{Kept}
 use Rattle.render_account.specs.Account as T
+use Rattle.render_account.specs.Waits as W
 
 added-within : (n : ℕ) → length (T.addedText n) ≤ 55
 unfolding T.addedText
@@ -125,3 +127,33 @@ line-within l answer e c =
 pub total-within : (c : Clock) → length (T.totalText c) ≤ 256
 unfolding T.totalText
 total-within c = simp length-append (omega (arith, seconds-within (millisecondsOf c), decimal-within (c .rate), decimal-within (4 * c .frames)))
+
+-- ---- requests that wait
+dropped-within : (before after : Kept) → length (W.droppedText before after) ≤ 128
+unfolding W.droppedText
+dropped-within before after =
+    words-within 128 (eqb (W.keptKey before) (W.keptKey after)) _ _ refl
+    (simp length-append (omega (arith, decimal-within (W.keptLabel after), decimal-within (W.keptNumber after), why-within (W.keptNumber after))))
+
+leave-within : (l answer : List ℕ) (c : Clock) → length (W.leaveText l answer c) ≤ 256
+unfolding W.leaveText
+leave-within l answer c =
+    simp length-append (omega (arith, time-within c, decimal-within (wideAt l 4), decimal-within (byteAt l 13), decimal-within (wideAt l 1), end-within (byteAt answer 0)))
+
+withdraw-within : (l answer : List ℕ) (c : Clock) → length (W.withdrawText l answer c) ≤ 256
+unfolding W.withdrawText
+withdraw-within l answer c = simp length-append (omega (arith, time-within c, decimal-within (wideAt l 1), end-within (byteAt answer 0)))
+
+pub moved-within : (before after : OpenBox) (c : Clock) → length (W.movedText before after c) ≤ 256
+unfolding W.movedText
+moved-within before after c =
+    let n = W.waitingCount before in
+    let m = W.waitingCount after in
+    words-within 256 (leb n m) _ _ refl
+    (simp length-append (omega (arith, time-within c, things-within (n - m) (words " request"), decimal-within m, dropped-within (keptIn before) (keptIn after))))
+
+pub wait-within : (l answer : List ℕ) (c : Clock) → length (W.waitText l answer c) ≤ 256
+unfolding W.waitText
+wait-within l answer c =
+    let code = byteAt l 0 in
+    either-within 256 (eqb code 0x74) _ _ (leave-within l answer c) (either-within 256 (eqb code 0x75) _ _ (withdraw-within l answer c) (omega arith))

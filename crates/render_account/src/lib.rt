@@ -4,6 +4,7 @@ ghost use Rattle.render_texts.specs.Texts.{Says, Tells, Adds, decimal};
 ghost use Rattle.replay_box.specs.Boxes.{ValidBox};
 ghost use Rattle.render_account.specs.Account as T;
 
+pub mod waits;
 mod words;
 
 use hex::byte_at;

@@ -30,7 +30,7 @@ fn why_added(t: Text, number: u8) -> Text
 }
 
 // Why a call is turned down: document 01's numbers in words.
-fn why(t: Text, number: u8) -> Text
+pub(crate) fn why(t: Text, number: u8) -> Text
     ensures { λ r. ⌜ Adds t (T.whyText number) r ⌝ }
 {
     match number {

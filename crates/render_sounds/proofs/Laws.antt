@@ -16,14 +16,14 @@ use Rattle.replay_session.specs.declared.Session.{Session}
 use Rattle.render_sounds.specs.Sounds.{isStereo, filledFrames, isOneFrame, framesFor, framesOf, cellsOf, soundOf}
 use Rattle.render_sounds.proofs.Pairs.{pairs-length}
 
-cells-length : (stereo : Bool) (n : ℕ) (b : OpenBox) → length (cellsOf stereo n b) ≡ 2 * n
-cells-length true n b = pairs-length (frames .stereo) (λ b. toI16 (frames .left b)) (λ b. toI16 (frames .right b)) n b
-cells-length false n b = pairs-length (frames .mono) (λ b. toI16 (frames .pcm b)) (λ b. toI16 (frames .pcm b)) n b
+cells-length : (stereo : Bool) (n : ℕ) (bytes : List ℕ) (b : OpenBox) → length (cellsOf stereo n bytes b) ≡ 2 * n
+cells-length true n bytes b = let f = frames bytes in pairs-length (f .stereo) (λ b. toI16 (f .left b)) (λ b. toI16 (f .right b)) n b
+cells-length false n bytes b = let f = frames bytes in pairs-length (f .mono) (λ b. toI16 (f .pcm b)) (λ b. toI16 (f .pcm b)) n b
 
 -- two cells a frame
-pub sound-length : (s : Session) (l : List ℕ) → length (soundOf s l) ≡ 2 * framesOf (s .«is_open») l
+pub sound-length : (s : Session) (bytes l : List ℕ) → length (soundOf s bytes l) ≡ 2 * framesOf (s .«is_open») l
 unfolding soundOf
-sound-length s l = cells-length (isStereo (byteAt l 0)) (framesOf (s .«is_open») l) (s .held)
+sound-length s bytes l = cells-length (isStereo (byteAt l 0)) (framesOf (s .«is_open») l) bytes (s .held)
 
 either : (t : Bool) (a b : ℕ) → (t ≡ true → a ≤ 2048) → b ≤ 2048 → cond t a b ≤ 2048
 either true a b h k = h refl

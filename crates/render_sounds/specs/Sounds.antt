@@ -39,15 +39,15 @@ unfoldable pub framesOf : Bool → List ℕ → ℕ
 framesOf isOpen l = cond (isOpen && isLine l) (framesFor (byteAt l 0) l) 0
 
 -- the cells of n frames of a box: a mono frame sounds on both sides
-abbrev pub cellsBy : Shape → ℕ → OpenBox → List ℤ
-cellsBy shape n b = given (shapeStep frames shape) (λ b. map toI16 (shapeRaw frames shape b)) n b
+abbrev pub cellsBy : Shape → ℕ → List ℕ → OpenBox → List ℤ
+cellsBy shape n bytes b = given (shapeStep (frames bytes) shape) (λ b. map toI16 (shapeRaw (frames bytes) shape b)) n b
 
-abbrev pub cellsOf : Bool → ℕ → OpenBox → List ℤ
-cellsOf stereo n b = cond stereo (cellsBy Sides n b) (cellsBy Doubled n b)
+abbrev pub cellsOf : Bool → ℕ → List ℕ → OpenBox → List ℤ
+cellsOf stereo n bytes b = cond stereo (cellsBy Sides n bytes b) (cellsBy Doubled n bytes b)
 
--- what a line sounds like, from the run before it
-unfoldable pub soundOf : Session → List ℕ → List ℤ
-soundOf s l = cellsOf (isStereo (byteAt l 0)) (framesOf (s .«is_open») l) (s .held)
+-- what a line sounds like, from the run before it and the bytes lent
+unfoldable pub soundOf : Session → List ℕ → List ℕ → List ℤ
+soundOf s bytes l = cellsOf (isStereo (byteAt l 0)) (framesOf (s .«is_open») l) bytes (s .held)
 
 -- so many cells at the front of a buffer, and the rest as before
 pub record Sounds (cells before after : List ℤ) (r : ℕ) : Type 0 where

@@ -2,7 +2,7 @@
 // the box.
 ghost use mathlib.Core.Path.{_≡_};
 ghost use Prim.Native.Nat.{_*_, _≤_};
-ghost use lib.ListN.{length};
+ghost use lib.ListN.{length, take};
 ghost use Rattle.replay_box.specs.Boxes.{ValidBox};
 ghost use Rattle.replay_session.specs.Sessions.{ValidSession};
 ghost use Rattle.render_sounds.specs.Sounds.{isStereo, filledFrames, isOneFrame, framesFor, framesOf, cellsOf, soundOf, Sounds};
@@ -74,26 +74,37 @@ fn frames(l: &[u8], is_open: bool) -> usize
 }
 
 // The cells of n frames at the front of the buffer.
-fn put(stereo: bool, n: usize, b: OpenBox, out: &mut [i16]) -> usize
+fn put(stereo: bool, n: usize, bytes: &[u8], b: OpenBox, out: &mut [i16]) -> usize
     requires { ⌜ ValidBox b ⌝ }
     requires { ⌜ 2 * n ≤ length (now out) ⌝ }
-    ensures { λ r. ⌜ Sounds (cellsOf stereo n b) (now (out .entry)) (now (out .exit)) r ⌝ }
+    ensures { λ r. ⌜ Sounds (cellsOf stereo n (now (bytes .entry)) b) (now (out .entry)) (now (out .exit)) r ⌝ }
 {
     let cells = 2 * n;
     if stereo {
-        let f = b.fill_i16(Shape::Sides, &mut out[..cells]);
+        let f = b.fill_i16(bytes, Shape::Sides, &mut out[..cells]);
         return f.filled;
     }
-    let f = b.fill_i16(Shape::Doubled, &mut out[..cells]);
+    let f = b.fill_i16(bytes, Shape::Doubled, &mut out[..cells]);
     f.filled
 }
 
-// How many cells the line sounds; they stand at the front of the buffer, and the rest is as before.
-pub fn sound(line: &[u8], s: Session, out: &mut [i16; 4096]) -> usize
+// The bytes lent are the first of those that are kept.
+fn sound_with(line: &[u8], s: Session, kept: &[u8], out: &mut [i16; 4096]) -> usize
     requires { ⌜ ValidSession s ⌝ }
-    ensures { λ r. ⌜ Sounds (soundOf s (now (line .entry))) (now (out .entry)) (now (out .exit)) r ⌝ }
+    requires { ⌜ length (now kept) ≡ 4096 ⌝ }
+    ensures { λ r. ⌜ Sounds (soundOf s (take (s .lent) (now (kept .entry))) (now (line .entry))) (now (out .entry)) (now (out .exit)) r ⌝ }
 {
     let n = frames(line, s.is_open());
     let b = s.held();
-    put(is_stereo(byte_at(line, 0)), n, b, out)
+    let count = s.lent();
+    let bytes = &kept[..count];
+    put(is_stereo(byte_at(line, 0)), n, bytes, b, out)
+}
+
+// How many cells the line sounds; they stand at the front of the buffer, and the rest is as before.
+pub fn sound(line: &[u8], s: Session, lent: &[u8; 4096], out: &mut [i16; 4096]) -> usize
+    requires { ⌜ ValidSession s ⌝ }
+    ensures { λ r. ⌜ Sounds (soundOf s (take (s .lent) (now (lent .entry))) (now (line .entry))) (now (out .entry)) (now (out .exit)) r ⌝ }
+{
+    sound_with(line, s, lent, out)
 }

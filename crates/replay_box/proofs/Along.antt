@@ -15,8 +15,8 @@ use Rattle.buffers.proofs.Lifted.{after-along, given-along}
 use Rattle.engine.specs.Engines as E
 use Rattle.engine.specs.Fills as G
 use Rattle.engine.specs.declared.fills.EngineFilled.{EngineFilled}
-use Rattle.marks.specs.Marks as K
-use Rattle.marks.specs.declared.Present.{Present}
+use Rattle.entering.specs.Lined as K
+use Rattle.entering.specs.declared.Lined.{Lined}
 use Rattle.mixer.specs.Mixers as M
 use Rattle.mixer.specs.declared.Mixer.{Mixer}
 use Rattle.sounder.specs.Frames as H
@@ -82,45 +82,45 @@ module _ {S T : Type 0} {k : Frames S} {g : Frames T} {f : S → T} (a : Along k
         fills-along (levelNext k l) (levelNext g l) (levelCell k l) (levelCell g l) (next-along l) (cell-along l) _ _ s cells filled r h
 
 -- ---- the box that is open
-module _ (b : OpenBox) where
-  abbrev inSounder : Present → OpenBox
+module _ (bytes : List ℕ) (b : OpenBox) where
+  abbrev inSounder : Lined → OpenBox
   inSounder p = withSounder b (S.boxed p)
 
   abbrev inEngine : Mixer → OpenBox
   inEngine m = withEngine b (E.boxed m)
 
-  sounder-along : b .present ≡ true → Along H.frames frames inSounder
+  sounder-along : b .present ≡ true → Along (H.frames bytes) (frames bytes) inSounder
   unfolding stepped of
   sounder-along e =
       record { mono = λ p. rw e; duty = λ p. rw e; stereo = λ p. rw e; pcm = λ p. rw e; level = λ p. rw e; left = λ p. rw e; right = λ p. rw e }
 
-  engine-along : b .present ≡ false → Along mixerFrames frames inEngine
+  engine-along : b .present ≡ false → Along mixerFrames (frames bytes) inEngine
   unfolding stepped of
   engine-along e =
       record { mono = λ m. rw e; duty = λ m. rw e; stereo = λ m. rw e; pcm = λ m. rw e; level = λ m. rw e; left = λ m. rw e; right = λ m. rw e }
 
   module _ (h : ValidBox b) where
-    present-good : (p : Present) → K.Valid p → ValidBox (inSounder p)
+    present-good : (p : Lined) → K.Valid p → ValidBox (inSounder p)
     present-good p v = keeps-sounder h (record { inside = v })
 
     mixer-good : (m : Mixer) → M.Valid m → ValidBox (inEngine m)
     mixer-good m v = keeps-engine h (record { inside = v })
 
     pub shape-sounder : {A : Type 0} (scale : ℤ → A) (z : Shape) {cells filled : List A} {r : SounderFilled} → b .present ≡ true
-        → H.Fills scale z (b .sounder) cells r filled
-        → FillsShape frames ValidBox scale z b cells (record { state = withSounder b (r .sounder); filled = r .filled }) filled
+        → H.Fills scale z bytes (b .sounder) cells r filled
+        → FillsShape (frames bytes) ValidBox scale z b cells (record { state = withSounder b (r .sounder); filled = r .filled }) filled
     shape-sounder scale z e f = shape-along (sounder-along e) K.Valid ValidBox present-good scale z (b .sounder .state) f
 
     pub shape-engine : {A : Type 0} (scale : ℤ → A) (z : Shape) {cells filled : List A} {r : EngineFilled} → b .present ≡ false
         → FillsShape mixerFrames M.Valid scale z (b .engine .state) cells (G.filledIn r) filled
-        → FillsShape frames ValidBox scale z b cells (record { state = withEngine b (r .engine); filled = r .filled }) filled
+        → FillsShape (frames bytes) ValidBox scale z b cells (record { state = withEngine b (r .engine); filled = r .filled }) filled
     shape-engine scale z e f = shape-along (engine-along e) M.Valid ValidBox mixer-good scale z (b .engine .state) f
 
-    pub level-sounder : (l : Level) {cells filled : List ℕ} {r : SounderFilled} → b .present ≡ true → H.Levels l (b .sounder) cells r filled
-        → FillsLevel frames ValidBox l b cells (record { state = withSounder b (r .sounder); filled = r .filled }) filled
+    pub level-sounder : (l : Level) {cells filled : List ℕ} {r : SounderFilled} → b .present ≡ true → H.Levels l bytes (b .sounder) cells r filled
+        → FillsLevel (frames bytes) ValidBox l b cells (record { state = withSounder b (r .sounder); filled = r .filled }) filled
     level-sounder l e f = level-along (sounder-along e) K.Valid ValidBox present-good l (b .sounder .state) f
 
     pub level-engine : (l : Level) {cells filled : List ℕ} {r : EngineFilled} → b .present ≡ false
         → FillsLevel mixerFrames M.Valid l (b .engine .state) cells (G.filledIn r) filled
-        → FillsLevel frames ValidBox l b cells (record { state = withEngine b (r .engine); filled = r .filled }) filled
+        → FillsLevel (frames bytes) ValidBox l b cells (record { state = withEngine b (r .engine); filled = r .filled }) filled
     level-engine l e f = level-along (engine-along e) M.Valid ValidBox mixer-good l (b .engine .state) f

@@ -9,6 +9,6 @@ pub valid-mixer : {b : OpenBox} → ValidBox b → Valid (mixerOf b)
 unfolding mixerOf
 valid-mixer {b} h = by (b .present)
   where
-    by : (t : Bool) → Valid (cond t (b .sounder .state .mixer) (b .engine .state))
-    by true = h .sounder .inside .inside
+    by : (t : Bool) → Valid (cond t (b .sounder .state .present .mixer) (b .engine .state))
+    by true = h .sounder .inside .present .inside
     by false = h .engine .inside

@@ -26,6 +26,9 @@ use Rattle.sounder.specs.declared.SounderChanged.{SounderChanged}
 use Rattle.sounder.specs.declared.SounderPlayed.{SounderPlayed}
 use Rattle.start.specs.declared.Request.{Request}
 use Rattle.tone.specs.declared.Waveform.{Waveform}
+use Rattle.waiting.specs.Lines.{inLine}
+use Rattle.waiting.specs.declared.Kept.{Kept}
+use Rattle.waiting.specs.declared.Waiting.{Waiting}
 use Rattle.replay_box.specs.declared.OpenBox.{OpenBox}
 use Rattle.replay_box.specs.declared.BoxChanged.{BoxChanged}
 use Rattle.replay_box.specs.declared.BoxPlayed.{BoxPlayed}
@@ -42,11 +45,11 @@ ValidBoxPlayed p = ValidBox (p .held)
 
 -- the mixer's state in the box that is open
 unfoldable pub mixerOf : OpenBox → Mixer
-mixerOf b = cond (b .present) (b .sounder .state .mixer) (b .engine .state)
+mixerOf b = cond (b .present) (b .sounder .state .present .mixer) (b .engine .state)
 
 -- the place that a request of this priority would get, by that box's rules
 unfoldable pub placeIn : OpenBox → ℕ → Told ℕ
-placeIn b priority = cond (b .present) (allocatedOldest (b .sounder .state) priority) (allocated (b .engine .state) priority)
+placeIn b priority = cond (b .present) (allocatedOldest (b .sounder .state .present) priority) (allocated (b .engine .state) priority)
 
 -- the ranks of its voices; document 01's has none
 unfoldable pub ranksOf : OpenBox → List ℕ
@@ -102,6 +105,20 @@ faded b bytes id ms adsr =
 -- the fade that keeps sounding, which document 01's box has not: of the box of the present rules, whichever is open
 unfoldable pub fadedOn : OpenBox → List ℕ → ℕ → ℕ → AdsrSpec → BoxChanged
 fadedOn b bytes id ms adsr = sounderChanged b (C.fadedOn (b .sounder .state) bytes id ms adsr)
+
+-- leaving and withdrawing, of the box of the present rules too
+unfoldable pub left : OpenBox → ℕ → Request → BoxChanged
+left b label r = sounderChanged b (C.leftIn (b .sounder .state) label r)
+
+unfoldable pub withdrawn : OpenBox → ℕ → BoxChanged
+withdrawn b label = sounderChanged b (C.withdrawnIn (b .sounder .state) label)
+
+-- those that wait, next first, and the kept refusal
+abbrev pub waitingIn : OpenBox → List Waiting
+waitingIn b = inLine (b .sounder .state .line)
+
+abbrev pub keptIn : OpenBox → Kept
+keptIn b = b .sounder .state .kept
 
 unfoldable pub played : OpenBox → List ℕ → Request → BoxPlayed
 played b bytes r =

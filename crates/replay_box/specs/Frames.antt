@@ -1,4 +1,4 @@
--- The frames of the box that a script has open. Assumes nothing.
+-- The frames of the box that a script has open, each lent the bank's bytes, which document 01's does not look at. Assumes nothing.
 use Prim.Native.Nat.{ℕ}
 use mathlib.Core.Bool.{cond}
 use mathlib.Core.List.{List}
@@ -7,6 +7,7 @@ use Rattle.buffers.specs.Buffers.{Done}
 use Rattle.buffers.specs.Shapes.{Frames, mixerFrames, FillsShape, FillsLevel}
 use Rattle.buffers.specs.declared.Level.{Level}
 use Rattle.buffers.specs.declared.Shape.{Shape}
+use Rattle.entering.specs.declared.Lined.{Lined}
 use Rattle.engine.specs.Engines as E
 use Rattle.engine.specs.Ticks as T
 use Rattle.engine.specs.declared.ticks.EngineSample.{EngineSample}
@@ -14,7 +15,6 @@ use Rattle.engine.specs.declared.ticks.EngineDuty.{EngineDuty}
 use Rattle.engine.specs.declared.ticks.EngineSides.{EngineSides}
 use Rattle.engine.specs.declared.ticks.EngineWideSides.{EngineWideSides}
 use Rattle.frame.specs.Frames.{monoFrame, dutyFrame, stereoFrame}
-use Rattle.marks.specs.declared.Present.{Present}
 use Rattle.mixer.specs.declared.Mixer.{Mixer}
 use Rattle.sounder.specs.Frames as K
 use Rattle.sounder.specs.Sounders as S
@@ -37,8 +37,8 @@ engineSample b f = record { held = withEngine b (f .engine); pcm = f .pcm }
 abbrev pub sounderSample : OpenBox → SounderSample → BoxSample
 sounderSample b f = record { held = withSounder b (f .sounder); pcm = f .pcm }
 
-unfoldable pub sampled : OpenBox → BoxSample
-sampled b = cond (b .present) (sounderSample b (K.sampleBox (b .sounder .state))) (engineSample b (T.sampleBox (monoFrame (b .engine .state))))
+unfoldable pub sampled : List ℕ → OpenBox → BoxSample
+sampled bytes b = cond (b .present) (sounderSample b (K.sampleBox bytes (b .sounder .state))) (engineSample b (T.sampleBox (monoFrame (b .engine .state))))
 
 abbrev pub engineDuty : OpenBox → EngineDuty → BoxDuty
 engineDuty b f = record { held = withEngine b (f .engine); duty = f .duty }
@@ -46,8 +46,8 @@ engineDuty b f = record { held = withEngine b (f .engine); duty = f .duty }
 abbrev pub sounderDuty : OpenBox → SounderDuty → BoxDuty
 sounderDuty b f = record { held = withSounder b (f .sounder); duty = f .duty }
 
-unfoldable pub dutied : OpenBox → BoxDuty
-dutied b = cond (b .present) (sounderDuty b (K.dutyBox (b .sounder .state))) (engineDuty b (T.dutyBox (dutyFrame (b .engine .state))))
+unfoldable pub dutied : List ℕ → OpenBox → BoxDuty
+dutied bytes b = cond (b .present) (sounderDuty b (K.dutyBox bytes (b .sounder .state))) (engineDuty b (T.dutyBox (dutyFrame (b .engine .state))))
 
 abbrev pub engineSides : OpenBox → EngineSides → BoxSides
 engineSides b f = record { held = withEngine b (f .engine); left = f .left; right = f .right }
@@ -55,8 +55,8 @@ engineSides b f = record { held = withEngine b (f .engine); left = f .left; righ
 abbrev pub sounderSides : OpenBox → SounderSides → BoxSides
 sounderSides b f = record { held = withSounder b (f .sounder); left = f .left; right = f .right }
 
-unfoldable pub sided : OpenBox → BoxSides
-sided b = cond (b .present) (sounderSides b (K.sidesBox (b .sounder .state))) (engineSides b (T.sidesBox (stereoFrame (b .engine .state))))
+unfoldable pub sided : List ℕ → OpenBox → BoxSides
+sided bytes b = cond (b .present) (sounderSides b (K.sidesBox bytes (b .sounder .state))) (engineSides b (T.sidesBox (stereoFrame (b .engine .state))))
 
 abbrev pub engineWideSides : OpenBox → EngineWideSides → BoxWideSides
 engineWideSides b f = record { held = withEngine b (f .engine); left = f .left; right = f .right }
@@ -64,10 +64,10 @@ engineWideSides b f = record { held = withEngine b (f .engine); left = f .left; 
 abbrev pub sounderWideSides : OpenBox → SounderWideSides → BoxWideSides
 sounderWideSides b f = record { held = withSounder b (f .sounder); left = f .left; right = f .right }
 
-unfoldable pub wideSided : OpenBox → BoxWideSides
-wideSided b =
+unfoldable pub wideSided : List ℕ → OpenBox → BoxWideSides
+wideSided bytes b =
     cond (b .present)
-    (sounderWideSides b (K.wideSides (K.sidesBox (b .sounder .state))))
+    (sounderWideSides b (K.wideSides (K.sidesBox bytes (b .sounder .state))))
     (engineWideSides b (T.wideSides (T.sidesBox (stereoFrame (b .engine .state)))))
 
 abbrev pub ValidSample : BoxSample → Type 0
@@ -85,31 +85,32 @@ ValidWideSides f = ValidBox (f .held)
 -- ---- buffers of frames
 module _ {A : Type 0} where
   -- what a frame of either box gives
-  unfoldable pub of : (Frames Present → Present → A) → (Frames Mixer → Mixer → A) → OpenBox → A
-  of new old b = cond (b .present) (new K.frames (b .sounder .state)) (old mixerFrames (b .engine .state))
+  unfoldable pub of : (Frames Lined → Lined → A) → (Frames Mixer → Mixer → A) → List ℕ → OpenBox → A
+  of new old bytes b = cond (b .present) (new (K.frames bytes) (b .sounder .state)) (old mixerFrames (b .engine .state))
 
 -- the open box after a step of either
-unfoldable pub stepped : (Present → Present) → (Mixer → Mixer) → OpenBox → OpenBox
+unfoldable pub stepped : (Lined → Lined) → (Mixer → Mixer) → OpenBox → OpenBox
 stepped new old b = cond (b .present) (withSounder b (S.boxed (new (b .sounder .state)))) (withEngine b (E.boxed (old (b .engine .state))))
 
-abbrev pub frames : Frames OpenBox
-frames =
+abbrev pub frames : List ℕ → Frames OpenBox
+frames bytes =
+    let f = K.frames bytes in
     record {
-      mono = stepped (K.frames .mono) (mixerFrames .mono);
-      duty = stepped (K.frames .duty) (mixerFrames .duty);
-      stereo = stepped (K.frames .stereo) (mixerFrames .stereo);
-      pcm = of (λ f. f .pcm) (λ f. f .pcm);
-      level = of (λ f. f .level) (λ f. f .level);
-      left = of (λ f. f .left) (λ f. f .left);
-      right = of (λ f. f .right) (λ f. f .right);
+      mono = stepped (f .mono) (mixerFrames .mono);
+      duty = stepped (f .duty) (mixerFrames .duty);
+      stereo = stepped (f .stereo) (mixerFrames .stereo);
+      pcm = of (λ f. f .pcm) (λ f. f .pcm) bytes;
+      level = of (λ f. f .level) (λ f. f .level) bytes;
+      left = of (λ f. f .left) (λ f. f .left) bytes;
+      right = of (λ f. f .right) (λ f. f .right) bytes;
     }
 
 -- what was filled
 abbrev pub doneIn : BoxFilled → Done OpenBox
 doneIn r = record { state = r .held; filled = r .filled }
 
-abbrev pub Fills : {A : Type 0} → (ℤ → A) → Shape → OpenBox → List A → BoxFilled → List A → Type 0
-Fills scale shape b cells r filled = FillsShape frames ValidBox scale shape b cells (doneIn r) filled
+abbrev pub Fills : {A : Type 0} → (ℤ → A) → Shape → List ℕ → OpenBox → List A → BoxFilled → List A → Type 0
+Fills scale shape bytes b cells r filled = FillsShape (frames bytes) ValidBox scale shape b cells (doneIn r) filled
 
-abbrev pub Levels : Level → OpenBox → List ℕ → BoxFilled → List ℕ → Type 0
-Levels level b cells r filled = FillsLevel frames ValidBox level b cells (doneIn r) filled
+abbrev pub Levels : Level → List ℕ → OpenBox → List ℕ → BoxFilled → List ℕ → Type 0
+Levels level bytes b cells r filled = FillsLevel (frames bytes) ValidBox level b cells (doneIn r) filled

@@ -13,13 +13,13 @@ pub struct BoxFilled {
 }
 
 impl OpenBox {
-    pub fn fill_i8(self, shape: Shape, out: &mut [i8]) -> BoxFilled
+    pub fn fill_i8(self, bytes: &[u8], shape: Shape, out: &mut [i8]) -> BoxFilled
         requires { ⌜ ValidBox self ⌝ }
-        ensures { λ r. ⌜ Fills toI8 shape self (now (out .entry)) r (now (out .exit)) ⌝ }
+        ensures { λ r. ⌜ Fills toI8 shape (now (bytes .entry)) self (now (out .entry)) r (now (out .exit)) ⌝ }
     {
         if self.present {
             let s = self.sounder;
-            let f = s.fill_i8(shape, out);
+            let f = s.fill_i8(bytes, shape, out);
             let sounder = f.sounder;
             let held = OpenBox { sounder, ..self };
             return BoxFilled {
@@ -37,13 +37,13 @@ impl OpenBox {
         }
     }
 
-    pub fn fill_i16(self, shape: Shape, out: &mut [i16]) -> BoxFilled
+    pub fn fill_i16(self, bytes: &[u8], shape: Shape, out: &mut [i16]) -> BoxFilled
         requires { ⌜ ValidBox self ⌝ }
-        ensures { λ r. ⌜ Fills toI16 shape self (now (out .entry)) r (now (out .exit)) ⌝ }
+        ensures { λ r. ⌜ Fills toI16 shape (now (bytes .entry)) self (now (out .entry)) r (now (out .exit)) ⌝ }
     {
         if self.present {
             let s = self.sounder;
-            let f = s.fill_i16(shape, out);
+            let f = s.fill_i16(bytes, shape, out);
             let sounder = f.sounder;
             let held = OpenBox { sounder, ..self };
             return BoxFilled {
@@ -61,13 +61,13 @@ impl OpenBox {
         }
     }
 
-    pub fn fill_i32(self, shape: Shape, out: &mut [i32]) -> BoxFilled
+    pub fn fill_i32(self, bytes: &[u8], shape: Shape, out: &mut [i32]) -> BoxFilled
         requires { ⌜ ValidBox self ⌝ }
-        ensures { λ r. ⌜ Fills toI32 shape self (now (out .entry)) r (now (out .exit)) ⌝ }
+        ensures { λ r. ⌜ Fills toI32 shape (now (bytes .entry)) self (now (out .entry)) r (now (out .exit)) ⌝ }
     {
         if self.present {
             let s = self.sounder;
-            let f = s.fill_i32(shape, out);
+            let f = s.fill_i32(bytes, shape, out);
             let sounder = f.sounder;
             let held = OpenBox { sounder, ..self };
             return BoxFilled {
@@ -85,13 +85,13 @@ impl OpenBox {
         }
     }
 
-    pub fn fill_u8(self, shape: Shape, out: &mut [u8]) -> BoxFilled
+    pub fn fill_u8(self, bytes: &[u8], shape: Shape, out: &mut [u8]) -> BoxFilled
         requires { ⌜ ValidBox self ⌝ }
-        ensures { λ r. ⌜ Fills raised shape self (now (out .entry)) r (now (out .exit)) ⌝ }
+        ensures { λ r. ⌜ Fills raised shape (now (bytes .entry)) self (now (out .entry)) r (now (out .exit)) ⌝ }
     {
         if self.present {
             let s = self.sounder;
-            let f = s.fill_u8(shape, out);
+            let f = s.fill_u8(bytes, shape, out);
             let sounder = f.sounder;
             let held = OpenBox { sounder, ..self };
             return BoxFilled {
@@ -109,13 +109,13 @@ impl OpenBox {
         }
     }
 
-    pub fn fill_u16(self, level: Level, out: &mut [u16]) -> BoxFilled
+    pub fn fill_u16(self, bytes: &[u8], level: Level, out: &mut [u16]) -> BoxFilled
         requires { ⌜ ValidBox self ⌝ }
-        ensures { λ r. ⌜ Levels level self (now (out .entry)) r (now (out .exit)) ⌝ }
+        ensures { λ r. ⌜ Levels level (now (bytes .entry)) self (now (out .entry)) r (now (out .exit)) ⌝ }
     {
         if self.present {
             let s = self.sounder;
-            let f = s.fill_u16(level, out);
+            let f = s.fill_u16(bytes, level, out);
             let sounder = f.sounder;
             let held = OpenBox { sounder, ..self };
             return BoxFilled {

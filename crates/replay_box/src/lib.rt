@@ -13,6 +13,7 @@ pub mod fills;
 mod reads;
 mod starts;
 pub mod ticks;
+mod waits;
 
 // Which of the two is open, and both: one that is not open is as it was when it was left.
 pub struct OpenBox {

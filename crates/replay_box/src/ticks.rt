@@ -27,13 +27,13 @@ pub struct BoxWideSides {
 }
 
 impl OpenBox {
-    pub fn tick_pcm(self) -> BoxSample
+    pub fn tick_pcm(self, bytes: &[u8]) -> BoxSample
         requires { ⌜ ValidBox self ⌝ }
-        ensures { λ r. ⌜ Made ValidSample (sampled self) r ⌝ }
+        ensures { λ r. ⌜ Made ValidSample (sampled (now (bytes .entry)) self) r ⌝ }
     {
         if self.present {
             let s = self.sounder;
-            let f = s.tick_pcm();
+            let f = s.tick_pcm(bytes);
             let sounder = f.sounder;
             let held = OpenBox { sounder, ..self };
             return BoxSample { held, pcm: f.pcm };
@@ -45,13 +45,13 @@ impl OpenBox {
         BoxSample { held, pcm: f.pcm }
     }
 
-    pub fn tick(self) -> BoxDuty
+    pub fn tick(self, bytes: &[u8]) -> BoxDuty
         requires { ⌜ ValidBox self ⌝ }
-        ensures { λ r. ⌜ Made ValidDuty (dutied self) r ⌝ }
+        ensures { λ r. ⌜ Made ValidDuty (dutied (now (bytes .entry)) self) r ⌝ }
     {
         if self.present {
             let s = self.sounder;
-            let f = s.tick();
+            let f = s.tick(bytes);
             let sounder = f.sounder;
             let held = OpenBox { sounder, ..self };
             return BoxDuty { held, duty: f.duty };
@@ -63,13 +63,13 @@ impl OpenBox {
         BoxDuty { held, duty: f.duty }
     }
 
-    pub fn tick_pwm(self) -> BoxDuty
+    pub fn tick_pwm(self, bytes: &[u8]) -> BoxDuty
         requires { ⌜ ValidBox self ⌝ }
-        ensures { λ r. ⌜ Made ValidDuty (dutied self) r ⌝ }
+        ensures { λ r. ⌜ Made ValidDuty (dutied (now (bytes .entry)) self) r ⌝ }
     {
         if self.present {
             let s = self.sounder;
-            let f = s.tick_pwm();
+            let f = s.tick_pwm(bytes);
             let sounder = f.sounder;
             let held = OpenBox { sounder, ..self };
             return BoxDuty { held, duty: f.duty };
@@ -81,13 +81,13 @@ impl OpenBox {
         BoxDuty { held, duty: f.duty }
     }
 
-    pub fn tick_stereo_pcm(self) -> BoxSides
+    pub fn tick_stereo_pcm(self, bytes: &[u8]) -> BoxSides
         requires { ⌜ ValidBox self ⌝ }
-        ensures { λ r. ⌜ Made ValidSides (sided self) r ⌝ }
+        ensures { λ r. ⌜ Made ValidSides (sided (now (bytes .entry)) self) r ⌝ }
     {
         if self.present {
             let s = self.sounder;
-            let f = s.tick_stereo_pcm();
+            let f = s.tick_stereo_pcm(bytes);
             let sounder = f.sounder;
             let held = OpenBox { sounder, ..self };
             return BoxSides {
@@ -107,13 +107,13 @@ impl OpenBox {
         }
     }
 
-    pub fn tick_stereo_i16(self) -> BoxWideSides
+    pub fn tick_stereo_i16(self, bytes: &[u8]) -> BoxWideSides
         requires { ⌜ ValidBox self ⌝ }
-        ensures { λ r. ⌜ Made ValidWideSides (wideSided self) r ⌝ }
+        ensures { λ r. ⌜ Made ValidWideSides (wideSided (now (bytes .entry)) self) r ⌝ }
     {
         if self.present {
             let s = self.sounder;
-            let f = s.tick_stereo_i16();
+            let f = s.tick_stereo_i16(bytes);
             let sounder = f.sounder;
             let held = OpenBox { sounder, ..self };
             return BoxWideSides {

@@ -1,3 +1,3 @@
 -- What the proofs here share.
 --     Calling    a call that may be refused, with its reply
-mod Calling
+pub mod Calling

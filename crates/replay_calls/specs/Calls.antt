@@ -149,15 +149,15 @@ audibleCall e = asked (R.Two (flagNumber (M.playing (mixerOf e))) (M.audibleCoun
 abbrev pub sidesCall : BoxSides → Called
 sidesCall f = asked (R.Two (ofZ w8 (f .left)) (ofZ w8 (f .right))) (f .held)
 
-unfoldable pub stereoCall : OpenBox → Called
-stereoCall e = sidesCall (sided e)
+unfoldable pub stereoCall : List ℕ → OpenBox → Called
+stereoCall bytes e = sidesCall (sided bytes e)
 
 -- 2C, one duty: "4 digits"
 abbrev pub widthCall : BoxDuty → Called
 widthCall f = asked (R.Wide (f .duty)) (f .held)
 
-unfoldable pub dutyCall : OpenBox → Called
-dutyCall e = widthCall (dutied e)
+unfoldable pub dutyCall : List ℕ → OpenBox → Called
+dutyCall bytes e = widthCall (dutied bytes e)
 
 -- 62, play: "id (2), E | number, voice", at the priority of a play request that names none
 unfoldable pub plainPlayCall : List ℕ → List ℕ → OpenBox → Called
@@ -175,15 +175,15 @@ panReadCall l e = asked (panReply (M.panRead (mixerOf e) (byteAt l 1))) e
 abbrev pub pcmCall : BoxSample → Called
 pcmCall f = asked (R.Number (ofZ w8 (f .pcm))) (f .held)
 
-unfoldable pub sampleCall : OpenBox → Called
-sampleCall e = pcmCall (sampled e)
+unfoldable pub sampleCall : List ℕ → OpenBox → Called
+sampleCall bytes e = pcmCall (sampled bytes e)
 
 -- 68, one stereo frame, i16: "left, right (4 digits each)"
 abbrev pub wideSidesCall : BoxWideSides → Called
 wideSidesCall f = asked (R.WideTwo (ofZ w16 (f .left)) (ofZ w16 (f .right))) (f .held)
 
-unfoldable pub wideStereoCall : OpenBox → Called
-wideStereoCall e = wideSidesCall (wideSided e)
+unfoldable pub wideStereoCall : List ℕ → OpenBox → Called
+wideStereoCall bytes e = wideSidesCall (wideSided bytes e)
 
 -- 73, fade that keeps sounding: "as 14 | number"; a bad line on document 01's box
 unfoldable pub fadeOnCall : List ℕ → List ℕ → OpenBox → Called
@@ -204,9 +204,9 @@ laterCall code l bytes e =
     (cond (eqb code 0x63) (panReadCall l e)
     (cond (eqb code 0x64) (asked R.Policy e)
     (cond (eqb code 0x65) (asked R.Configuration e)
-    (cond (eqb code 0x66) (sampleCall e)
-    (cond (eqb code 0x67) (dutyCall e)
-    (cond (eqb code 0x68) (wideStereoCall e)
+    (cond (eqb code 0x66) (sampleCall bytes e)
+    (cond (eqb code 0x67) (dutyCall bytes e)
+    (cond (eqb code 0x68) (wideStereoCall bytes e)
     (cond (eqb code 0x69) (asked (R.Voice (byteAt l 1)) e)
     (cond (eqb code 0x73) (fadeOnCall l bytes e)
     (cond (eqb code 0x79) (fadeLeftCall e)
@@ -227,8 +227,8 @@ callFor code l bytes e =
     (cond (eqb code 0x1B) (asked R.Payload e)
     (cond (eqb code 0x1C) (allocateCall l e)
     (cond (eqb code 0x1D) (audibleCall e)
-    (cond (eqb code 0x2B) (stereoCall e)
-    (cond (eqb code 0x2C) (dutyCall e)
+    (cond (eqb code 0x2B) (stereoCall bytes e)
+    (cond (eqb code 0x2C) (dutyCall bytes e)
     (cond (eqb code 0x30) (asked R.Dump e) (laterCall code l bytes e)))))))))))))))
 
 -- the bytes are those lent; a bad line asks nothing of the box

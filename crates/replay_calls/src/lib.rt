@@ -25,8 +25,8 @@ use replay_fields::polyblep_waveform;
 use replay_fields::spec_at;
 use replay_fields::tone_waveform;
 
-// What is answered: that the line is bad, nothing, one number or two, a number of four digits or two of them, an entry, the part of the bank
-// that was asked for, the state, the policy, the configuration, the voice at an index, the ranks.
+// What is answered: that the line is bad, nothing, one number or two, a number of four digits or two of them, a number and a label of four digits, an
+// entry, the part of the bank that was asked for, the state, the policy, the configuration, the voice at an index, the ranks, the labels that wait.
 pub enum Reply {
     Bad,
     Nothing,
@@ -34,6 +34,7 @@ pub enum Reply {
     Two(u64, u64),
     Wide(u64),
     WideTwo(u64, u64),
+    Labelled(u64, u64),
     Entry(EffectEntry),
     Payload,
     Dump,
@@ -41,6 +42,7 @@ pub enum Reply {
     Configuration,
     Voice(u8),
     Ranks,
+    Waiting,
 }
 
 // The box after the call.
@@ -92,7 +94,7 @@ fn is_allowed(code: u8, l: &[u8]) -> bool
     }
 }
 
-fn outcome_reply(o: Outcome) -> Reply
+pub fn outcome_reply(o: Outcome) -> Reply
     ensures { λ r. ⌜ r ≡ outcomeReply o ⌝ }
 {
     match o {
@@ -260,11 +262,11 @@ fn audible_call(e: OpenBox) -> Called
     }
 }
 
-fn stereo_call(e: OpenBox) -> Called
+fn stereo_call(bytes: &[u8], e: OpenBox) -> Called
     requires { ⌜ ValidBox e ⌝ }
-    ensures { λ r. ⌜ Made ValidCalled (stereoCall e) r ⌝ }
+    ensures { λ r. ⌜ Made ValidCalled (stereoCall (now (bytes .entry)) e) r ⌝ }
 {
-    let f = e.tick_stereo_pcm();
+    let f = e.tick_stereo_pcm(bytes);
     let held = f.held;
     let left = as_u8(f.left) as u64;
     let right = as_u8(f.right) as u64;
@@ -274,11 +276,11 @@ fn stereo_call(e: OpenBox) -> Called
     }
 }
 
-fn duty_call(e: OpenBox) -> Called
+fn duty_call(bytes: &[u8], e: OpenBox) -> Called
     requires { ⌜ ValidBox e ⌝ }
-    ensures { λ r. ⌜ Made ValidCalled (dutyCall e) r ⌝ }
+    ensures { λ r. ⌜ Made ValidCalled (dutyCall (now (bytes .entry)) e) r ⌝ }
 {
-    let f = e.tick();
+    let f = e.tick(bytes);
     let held = f.held;
     Called {
         reply: Reply::Wide(f.duty as u64),
@@ -320,11 +322,11 @@ fn pan_read_call(l: &[u8], e: OpenBox) -> Called
     }
 }
 
-fn sample_call(e: OpenBox) -> Called
+fn sample_call(bytes: &[u8], e: OpenBox) -> Called
     requires { ⌜ ValidBox e ⌝ }
-    ensures { λ r. ⌜ Made ValidCalled (sampleCall e) r ⌝ }
+    ensures { λ r. ⌜ Made ValidCalled (sampleCall (now (bytes .entry)) e) r ⌝ }
 {
-    let f = e.tick_pcm();
+    let f = e.tick_pcm(bytes);
     let held = f.held;
     Called {
         reply: Reply::Number(as_u8(f.pcm) as u64),
@@ -332,11 +334,11 @@ fn sample_call(e: OpenBox) -> Called
     }
 }
 
-fn pwm_call(e: OpenBox) -> Called
+fn pwm_call(bytes: &[u8], e: OpenBox) -> Called
     requires { ⌜ ValidBox e ⌝ }
-    ensures { λ r. ⌜ Made ValidCalled (dutyCall e) r ⌝ }
+    ensures { λ r. ⌜ Made ValidCalled (dutyCall (now (bytes .entry)) e) r ⌝ }
 {
-    let f = e.tick_pwm();
+    let f = e.tick_pwm(bytes);
     let held = f.held;
     Called {
         reply: Reply::Wide(f.duty as u64),
@@ -344,11 +346,11 @@ fn pwm_call(e: OpenBox) -> Called
     }
 }
 
-fn wide_stereo_call(e: OpenBox) -> Called
+fn wide_stereo_call(bytes: &[u8], e: OpenBox) -> Called
     requires { ⌜ ValidBox e ⌝ }
-    ensures { λ r. ⌜ Made ValidCalled (wideStereoCall e) r ⌝ }
+    ensures { λ r. ⌜ Made ValidCalled (wideStereoCall (now (bytes .entry)) e) r ⌝ }
 {
-    let f = e.tick_stereo_i16();
+    let f = e.tick_stereo_i16(bytes);
     let held = f.held;
     let left = unsigned16(f.left) as u64;
     let right = unsigned16(f.right) as u64;
@@ -421,9 +423,9 @@ fn later_call(code: u8, l: &[u8], bytes: &[u8], e: OpenBox) -> Called
             reply: Reply::Configuration,
             held: e,
         },
-        0x66 => sample_call(e),
-        0x67 => pwm_call(e),
-        0x68 => wide_stereo_call(e),
+        0x66 => sample_call(bytes, e),
+        0x67 => pwm_call(bytes, e),
+        0x68 => wide_stereo_call(bytes, e),
         0x69 => Called {
             reply: Reply::Voice(byte_at(l, 1)),
             held: e,
@@ -458,8 +460,8 @@ fn call_for(code: u8, l: &[u8], bytes: &[u8], e: OpenBox) -> Called
         },
         0x1c => allocate_call(l, e),
         0x1d => audible_call(e),
-        0x2b => stereo_call(e),
-        0x2c => duty_call(e),
+        0x2b => stereo_call(bytes, e),
+        0x2c => duty_call(bytes, e),
         0x30 => Called {
             reply: Reply::Dump,
             held: e,

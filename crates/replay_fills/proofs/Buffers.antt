@@ -72,19 +72,19 @@ module _ {A : Type 0} (text : A → List ℕ) (w : ℕ) (sized : (x : A) → len
       record { laid = rw (f .count, back-same b, f .content, lent-blank (b .lent)) at all; held = f .state }
 
   -- by shape
-  pub shaped-shown : (scale : ℤ → A) (shape : Shape) {blank : A} {n : ℕ} {b : OpenBox} {r : BoxFilled} {cells part : List A} {before after : List ℕ} {len : ℕ}
+  pub shaped-shown : (scale : ℤ → A) (shape : Shape) (bytes : List ℕ) {blank : A} {n : ℕ} {b : OpenBox} {r : BoxFilled} {cells part : List A} {before after : List ℕ} {len : ℕ}
       → Back blank n cells part
-      → Fills scale shape b (take n cells) r part
+      → Fills scale shape bytes b (take n cells) r part
       → Laid before 0 (numberedText 4 (r .filled) text (take n (part ++ drop n cells))) after len
-      → Shows (shapedFill text blank scale shape n b) before after (record { len = len; held = r .held })
-  shaped-shown scale shape {n = n} b f t =
-      shown (shapeStep frames shape) (λ b. map scale (shapeRaw frames shape b)) (framesIn shape n) (cellsIn shape n) b (rw (lent-length (b .lent)) at f) t
+      → Shows (shapedFill text blank scale shape n bytes b) before after (record { len = len; held = r .held })
+  shaped-shown scale shape bytes {n = n} b f t =
+      shown (shapeStep (frames bytes) shape) (λ b. map scale (shapeRaw (frames bytes) shape b)) (framesIn shape n) (cellsIn shape n) b (rw (lent-length (b .lent)) at f) t
 
 -- by level
-pub level-shown : (level : Level) {n : ℕ} {b : OpenBox} {r : BoxFilled} {cells part before after : List ℕ} {len : ℕ}
+pub level-shown : (level : Level) (bytes : List ℕ) {n : ℕ} {b : OpenBox} {r : BoxFilled} {cells part before after : List ℕ} {len : ℕ}
     → Back blankU16 n cells part
-    → Levels level b (take n cells) r part
+    → Levels level bytes b (take n cells) r part
     → Laid before 0 (numberedText 4 (r .filled) wideText (take n (part ++ drop n cells))) after len
-    → Shows (levelFill level n b) before after (record { len = len; held = r .held })
-level-shown level {n = n} b f t =
-    shown wideText 4 (λ x. length-hexOf 4 x) (omega arith) (levelNext frames level) (levelCell frames level) n n b (rw (lent-length (b .lent)) at f) t
+    → Shows (levelFill level n bytes b) before after (record { len = len; held = r .held })
+level-shown level bytes {n = n} b f t =
+    shown wideText 4 (λ x. length-hexOf 4 x) (omega arith) (levelNext (frames bytes) level) (levelCell (frames bytes) level) n n b (rw (lent-length (b .lent)) at f) t

@@ -50,70 +50,70 @@ module _ {A : Type 0} (text : A → List ℕ) (blank : A) (step : OpenBox → Op
   filledBy count written n b = record { text = numberedText 4 written text (given step gives count b ++ drop written (replicate n blank)); held = after step count b }
 
 -- by shape and by level: a frame for each cell, or for each pair of cells, where an odd last one is not written
-abbrev pub shapedFill : {A : Type 0} → (A → List ℕ) → A → (ℤ → A) → Shape → ℕ → OpenBox → Fill
-shapedFill text blank scale shape n b = filledBy text blank (shapeStep frames shape) (λ b. map scale (shapeRaw frames shape b)) (framesIn shape n) (cellsIn shape n) n b
+abbrev pub shapedFill : {A : Type 0} → (A → List ℕ) → A → (ℤ → A) → Shape → ℕ → List ℕ → OpenBox → Fill
+shapedFill text blank scale shape n bytes b = filledBy text blank (shapeStep (frames bytes) shape) (λ b. map scale (shapeRaw (frames bytes) shape b)) (framesIn shape n) (cellsIn shape n) n b
 
-abbrev pub levelFill : Level → ℕ → OpenBox → Fill
-levelFill level n b = filledBy wideText blankU16 (levelNext frames level) (levelCell frames level) n n n b
+abbrev pub levelFill : Level → ℕ → List ℕ → OpenBox → Fill
+levelFill level n bytes b = filledBy wideText blankU16 (levelNext (frames bytes) level) (levelCell (frames bytes) level) n n n b
 
 -- 20: "duty"
-abbrev pub dutyFill : ℕ → OpenBox → Fill
-dutyFill n b = levelFill Duty n b
+abbrev pub dutyFill : ℕ → List ℕ → OpenBox → Fill
+dutyFill n bytes b = levelFill Duty n bytes b
 
 -- 21: "PCM i8"
-abbrev pub pcmI8Fill : ℕ → OpenBox → Fill
-pcmI8Fill n b = shapedFill i8Text blankI8 toI8 Once n b
+abbrev pub pcmI8Fill : ℕ → List ℕ → OpenBox → Fill
+pcmI8Fill n bytes b = shapedFill i8Text blankI8 toI8 Once n bytes b
 
 -- 22: "PCM i16"
-abbrev pub pcmI16Fill : ℕ → OpenBox → Fill
-pcmI16Fill n b = shapedFill i16Text blankI16 toI16 Once n b
+abbrev pub pcmI16Fill : ℕ → List ℕ → OpenBox → Fill
+pcmI16Fill n bytes b = shapedFill i16Text blankI16 toI16 Once n bytes b
 
 -- 23: "PCM i32"
-abbrev pub pcmI32Fill : ℕ → OpenBox → Fill
-pcmI32Fill n b = shapedFill i32Text blankI32 toI32 Once n b
+abbrev pub pcmI32Fill : ℕ → List ℕ → OpenBox → Fill
+pcmI32Fill n bytes b = shapedFill i32Text blankI32 toI32 Once n bytes b
 
 -- 24: "DAC u8"
-abbrev pub dacU8Fill : ℕ → OpenBox → Fill
-dacU8Fill n b = shapedFill byteText blankU8 raised Once n b
+abbrev pub dacU8Fill : ℕ → List ℕ → OpenBox → Fill
+dacU8Fill n bytes b = shapedFill byteText blankU8 raised Once n bytes b
 
 -- 25: "DAC u12"
-abbrev pub dacU12Fill : ℕ → OpenBox → Fill
-dacU12Fill n b = levelFill U12 n b
+abbrev pub dacU12Fill : ℕ → List ℕ → OpenBox → Fill
+dacU12Fill n bytes b = levelFill U12 n bytes b
 
 -- 26: "DAC u16"
-abbrev pub dacU16Fill : ℕ → OpenBox → Fill
-dacU16Fill n b = levelFill U16 n b
+abbrev pub dacU16Fill : ℕ → List ℕ → OpenBox → Fill
+dacU16Fill n bytes b = levelFill U16 n bytes b
 
 -- 27: "stereo i16, mono doubled"
-abbrev pub stereoI16Fill : ℕ → OpenBox → Fill
-stereoI16Fill n b = shapedFill i16Text blankI16 toI16 Doubled n b
+abbrev pub stereoI16Fill : ℕ → List ℕ → OpenBox → Fill
+stereoI16Fill n bytes b = shapedFill i16Text blankI16 toI16 Doubled n bytes b
 
 -- 28: "stereo i32, mono doubled"
-abbrev pub stereoI32Fill : ℕ → OpenBox → Fill
-stereoI32Fill n b = shapedFill i32Text blankI32 toI32 Doubled n b
+abbrev pub stereoI32Fill : ℕ → List ℕ → OpenBox → Fill
+stereoI32Fill n bytes b = shapedFill i32Text blankI32 toI32 Doubled n bytes b
 
 -- 29: "stereo i16, panned"
-abbrev pub pannedI16Fill : ℕ → OpenBox → Fill
-pannedI16Fill n b = shapedFill i16Text blankI16 toI16 Sides n b
+abbrev pub pannedI16Fill : ℕ → List ℕ → OpenBox → Fill
+pannedI16Fill n bytes b = shapedFill i16Text blankI16 toI16 Sides n bytes b
 
 -- 2A: "stereo i8, panned"
-abbrev pub pannedI8Fill : ℕ → OpenBox → Fill
-pannedI8Fill n b = shapedFill i8Text blankI8 toI8 Sides n b
+abbrev pub pannedI8Fill : ℕ → List ℕ → OpenBox → Fill
+pannedI8Fill n bytes b = shapedFill i8Text blankI8 toI8 Sides n bytes b
 
 -- by the code, one of 20 to 2A
-unfoldable pub fillFor : ℕ → ℕ → OpenBox → Fill
-fillFor code n b =
-    cond (eqb code 0x20) (dutyFill n b)
-    (cond (eqb code 0x21) (pcmI8Fill n b)
-    (cond (eqb code 0x22) (pcmI16Fill n b)
-    (cond (eqb code 0x23) (pcmI32Fill n b)
-    (cond (eqb code 0x24) (dacU8Fill n b)
-    (cond (eqb code 0x25) (dacU12Fill n b)
-    (cond (eqb code 0x26) (dacU16Fill n b)
-    (cond (eqb code 0x27) (stereoI16Fill n b)
-    (cond (eqb code 0x28) (stereoI32Fill n b)
-    (cond (eqb code 0x29) (pannedI16Fill n b)
-    (pannedI8Fill n b))))))))))
+unfoldable pub fillFor : ℕ → ℕ → List ℕ → OpenBox → Fill
+fillFor code n bytes b =
+    cond (eqb code 0x20) (dutyFill n bytes b)
+    (cond (eqb code 0x21) (pcmI8Fill n bytes b)
+    (cond (eqb code 0x22) (pcmI16Fill n bytes b)
+    (cond (eqb code 0x23) (pcmI32Fill n bytes b)
+    (cond (eqb code 0x24) (dacU8Fill n bytes b)
+    (cond (eqb code 0x25) (dacU12Fill n bytes b)
+    (cond (eqb code 0x26) (dacU16Fill n bytes b)
+    (cond (eqb code 0x27) (stereoI16Fill n bytes b)
+    (cond (eqb code 0x28) (stereoI32Fill n bytes b)
+    (cond (eqb code 0x29) (pannedI16Fill n bytes b)
+    (pannedI8Fill n bytes b))))))))))
 
 -- the text was laid over a buffer from its front on, and the box is the one after the fill
 pub record Shows (f : Fill) (before after : List ℕ) (r : Shown) : Type 0 where

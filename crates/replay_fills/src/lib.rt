@@ -53,84 +53,84 @@ fn blank_i32s() -> [i32; 2048]
     [-1515870811i32; 2048]
 }
 
-fn i8s(e: OpenBox, shape: Shape, n: usize, out: &mut [u8; 262144]) -> Shown
+fn i8s(bytes: &[u8], e: OpenBox, shape: Shape, n: usize, out: &mut [u8; 262144]) -> Shown
     requires { ⌜ ValidBox e ⌝ }
     requires { ⌜ n ≤ 2048 ⌝ }
-    ensures { λ r. ⌜ Shows (shapedFill i8Text blankI8 toI8 shape n e) (now (out .entry)) (now (out .exit)) r ⌝ }
+    ensures { λ r. ⌜ Shows (shapedFill i8Text blankI8 toI8 shape n (now (bytes .entry)) e) (now (out .entry)) (now (out .exit)) r ⌝ }
 {
     let mut cells = blank_i8s();
-    let f = e.fill_i8(shape, &mut cells[..n]);
+    let f = e.fill_i8(bytes, shape, &mut cells[..n]);
     let held = f.held;
     let len = put_i8s(out, f.filled as u64, 4, &cells[..n]);
     Shown { len, held }
 }
 
-fn i16s(e: OpenBox, shape: Shape, n: usize, out: &mut [u8; 262144]) -> Shown
+fn i16s(bytes: &[u8], e: OpenBox, shape: Shape, n: usize, out: &mut [u8; 262144]) -> Shown
     requires { ⌜ ValidBox e ⌝ }
     requires { ⌜ n ≤ 2048 ⌝ }
-    ensures { λ r. ⌜ Shows (shapedFill i16Text blankI16 toI16 shape n e) (now (out .entry)) (now (out .exit)) r ⌝ }
+    ensures { λ r. ⌜ Shows (shapedFill i16Text blankI16 toI16 shape n (now (bytes .entry)) e) (now (out .entry)) (now (out .exit)) r ⌝ }
 {
     let mut cells = blank_i16s();
-    let f = e.fill_i16(shape, &mut cells[..n]);
+    let f = e.fill_i16(bytes, shape, &mut cells[..n]);
     let held = f.held;
     let len = put_i16s(out, f.filled as u64, 4, &cells[..n]);
     Shown { len, held }
 }
 
-fn i32s(e: OpenBox, shape: Shape, n: usize, out: &mut [u8; 262144]) -> Shown
+fn i32s(bytes: &[u8], e: OpenBox, shape: Shape, n: usize, out: &mut [u8; 262144]) -> Shown
     requires { ⌜ ValidBox e ⌝ }
     requires { ⌜ n ≤ 2048 ⌝ }
-    ensures { λ r. ⌜ Shows (shapedFill i32Text blankI32 toI32 shape n e) (now (out .entry)) (now (out .exit)) r ⌝ }
+    ensures { λ r. ⌜ Shows (shapedFill i32Text blankI32 toI32 shape n (now (bytes .entry)) e) (now (out .entry)) (now (out .exit)) r ⌝ }
 {
     let mut cells = blank_i32s();
-    let f = e.fill_i32(shape, &mut cells[..n]);
+    let f = e.fill_i32(bytes, shape, &mut cells[..n]);
     let held = f.held;
     let len = put_i32s(out, f.filled as u64, 4, &cells[..n]);
     Shown { len, held }
 }
 
-fn u8s(e: OpenBox, shape: Shape, n: usize, out: &mut [u8; 262144]) -> Shown
+fn u8s(bytes: &[u8], e: OpenBox, shape: Shape, n: usize, out: &mut [u8; 262144]) -> Shown
     requires { ⌜ ValidBox e ⌝ }
     requires { ⌜ n ≤ 2048 ⌝ }
-    ensures { λ r. ⌜ Shows (shapedFill byteText blankU8 raised shape n e) (now (out .entry)) (now (out .exit)) r ⌝ }
+    ensures { λ r. ⌜ Shows (shapedFill byteText blankU8 raised shape n (now (bytes .entry)) e) (now (out .entry)) (now (out .exit)) r ⌝ }
 {
     let mut cells = blank_u8s();
-    let f = e.fill_u8(shape, &mut cells[..n]);
+    let f = e.fill_u8(bytes, shape, &mut cells[..n]);
     let held = f.held;
     let len = put_u8s(out, f.filled as u64, 4, &cells[..n]);
     Shown { len, held }
 }
 
-fn u16s(e: OpenBox, level: Level, n: usize, out: &mut [u8; 262144]) -> Shown
+fn u16s(bytes: &[u8], e: OpenBox, level: Level, n: usize, out: &mut [u8; 262144]) -> Shown
     requires { ⌜ ValidBox e ⌝ }
     requires { ⌜ n ≤ 2048 ⌝ }
-    ensures { λ r. ⌜ Shows (levelFill level n e) (now (out .entry)) (now (out .exit)) r ⌝ }
+    ensures { λ r. ⌜ Shows (levelFill level n (now (bytes .entry)) e) (now (out .entry)) (now (out .exit)) r ⌝ }
 {
     let mut cells = blank_u16s();
-    let f = e.fill_u16(level, &mut cells[..n]);
+    let f = e.fill_u16(bytes, level, &mut cells[..n]);
     let held = f.held;
     let len = put_u16s(out, f.filled as u64, 4, &cells[..n]);
     Shown { len, held }
 }
 
 // By the code of the record, one of 20 to 2A.
-fn fill_few(code: u8, e: OpenBox, n: usize, out: &mut [u8; 262144]) -> Shown
+fn fill_few(code: u8, bytes: &[u8], e: OpenBox, n: usize, out: &mut [u8; 262144]) -> Shown
     requires { ⌜ ValidBox e ⌝ }
     requires { ⌜ n ≤ 2048 ⌝ }
-    ensures { λ r. ⌜ Shows (fillFor code n e) (now (out .entry)) (now (out .exit)) r ⌝ }
+    ensures { λ r. ⌜ Shows (fillFor code n (now (bytes .entry)) e) (now (out .entry)) (now (out .exit)) r ⌝ }
 {
     match code {
-        0x20 => u16s(e, Level::Duty, n, out),
-        0x21 => i8s(e, Shape::Once, n, out),
-        0x22 => i16s(e, Shape::Once, n, out),
-        0x23 => i32s(e, Shape::Once, n, out),
-        0x24 => u8s(e, Shape::Once, n, out),
-        0x25 => u16s(e, Level::U12, n, out),
-        0x26 => u16s(e, Level::U16, n, out),
-        0x27 => i16s(e, Shape::Doubled, n, out),
-        0x28 => i32s(e, Shape::Doubled, n, out),
-        0x29 => i16s(e, Shape::Sides, n, out),
-        _ => i8s(e, Shape::Sides, n, out),
+        0x20 => u16s(bytes, e, Level::Duty, n, out),
+        0x21 => i8s(bytes, e, Shape::Once, n, out),
+        0x22 => i16s(bytes, e, Shape::Once, n, out),
+        0x23 => i32s(bytes, e, Shape::Once, n, out),
+        0x24 => u8s(bytes, e, Shape::Once, n, out),
+        0x25 => u16s(bytes, e, Level::U12, n, out),
+        0x26 => u16s(bytes, e, Level::U16, n, out),
+        0x27 => i16s(bytes, e, Shape::Doubled, n, out),
+        0x28 => i32s(bytes, e, Shape::Doubled, n, out),
+        0x29 => i16s(bytes, e, Shape::Sides, n, out),
+        _ => i8s(bytes, e, Shape::Sides, n, out),
     }
 }
 
@@ -141,9 +141,9 @@ fn at_most_2048(n: usize) -> usize
 }
 
 // No record asks for more than 2,048 cells; of a larger number, so many are filled.
-pub fn fill(code: u8, e: OpenBox, n: usize, out: &mut [u8; 262144]) -> Shown
+pub fn fill(code: u8, bytes: &[u8], e: OpenBox, n: usize, out: &mut [u8; 262144]) -> Shown
     requires { ⌜ ValidBox e ⌝ }
-    ensures { λ r. ⌜ Shows (fillFor code (min n 2048) e) (now (out .entry)) (now (out .exit)) r ⌝ }
+    ensures { λ r. ⌜ Shows (fillFor code (min n 2048) (now (bytes .entry)) e) (now (out .entry)) (now (out .exit)) r ⌝ }
 {
-    fill_few(code, e, at_most_2048(n), out)
+    fill_few(code, bytes, e, at_most_2048(n), out)
 }

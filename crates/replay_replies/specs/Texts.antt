@@ -1,24 +1,26 @@
 -- The text of each reply. Assumes nothing.
 use Prim.Native.Nat.{ℕ}
 use mathlib.Core.Bool.{Bool}
-use mathlib.Core.List.{List, [], _++_}
-use lib.ListN.{take}
+use mathlib.Core.List.{List, [], _++_, map}
+use lib.ListN.{length, take}
 use Rattle.error.specs.Told.{numberIn}
 use Rattle.tier.specs.Kinds.{byteOf}
 use Rattle.bank.specs.Banks.{payloadUnder, payloadPart}
 use Rattle.bank.specs.declared.BankSet.{BankSet}
 use Rattle.bank.specs.declared.EffectEntry.{EffectEntry}
 use Rattle.hex.specs.Hex.{wideAt, longAt, hexOf, newline}
-use Rattle.replay_cells.specs.Cells.{byteText, numberedText}
+use Rattle.replay_cells.specs.Cells.{byteText, wideText, numberedText}
 use Rattle.mixer.specs.Mixers.{voiceRead}
 use Rattle.mixer.specs.declared.VoiceRead.{VoiceRead}
 use Rattle.mixer.specs.declared.VoiceRead.the-variants as I
 use Rattle.config.specs.declared.AudioConfig.{AudioConfig}
 use Rattle.replay_dump.specs.Dumps.{policyNumber, modeNumber, voiceLine, dumpText}
-use Rattle.replay_box.specs.Boxes.{mixerOf, ranksOf}
+use Rattle.replay_box.specs.Boxes.{mixerOf, ranksOf, waitingIn}
 use Rattle.replay_box.specs.declared.OpenBox.{OpenBox}
 use Rattle.replay_calls.specs.declared.Reply.{Reply}
 use Rattle.replay_calls.specs.declared.Reply.the-variants as R
+use Rattle.waiting.specs.Lines.{labelOf}
+use Rattle.waiting.specs.declared.Waiting.{Waiting}
 
 -- a bad line "prints FFFF"
 abbrev pub badText : List ℕ
@@ -52,6 +54,10 @@ twoText a b = hexOf 2 a ++ hexOf 2 b ++ newline
 abbrev pub wideTwoText : ℕ → ℕ → List ℕ
 wideTwoText a b = hexOf 4 a ++ hexOf 4 b ++ newline
 
+-- a number of two digits and a label of four
+abbrev pub labelledText : ℕ → ℕ → List ℕ
+labelledText a b = hexOf 2 a ++ hexOf 4 b ++ newline
+
 -- 65: "sample rate (8 digits), period (4), duty mode (2), master gain (2)"
 abbrev pub configText : AudioConfig → List ℕ
 configText c =
@@ -70,6 +76,10 @@ voiceText I.None = newline
 abbrev pub ranksText : OpenBox → List ℕ
 ranksText b = numberedText 0 0 byteText (take (mixerOf b .n) (ranksOf b))
 
+-- 76: "count (2 digits), then the labels in line, 4 digits each, next first"
+abbrev pub waitingText : List Waiting → List ℕ
+waitingText ws = numberedText 2 (length ws) wideText (map labelOf ws)
+
 -- "Each record that prints prints one line, unless said otherwise, its parts without a space between."
 abbrev pub replyText : Reply → List ℕ → List ℕ → OpenBox → List ℕ
 replyText R.Bad l bytes b = badText
@@ -78,6 +88,7 @@ replyText (R.Number n) l bytes b = hexOf 2 n ++ newline
 replyText (R.Two x y) l bytes b = twoText x y
 replyText (R.Wide n) l bytes b = hexOf 4 n ++ newline
 replyText (R.WideTwo x y) l bytes b = wideTwoText x y
+replyText (R.Labelled x y) l bytes b = labelledText x y
 replyText (R.Entry e) l bytes b = entryText e
 replyText R.Payload l bytes b = payloadText (b .present) (mixerOf b .bank) l bytes
 replyText R.Dump l bytes b = dumpText (mixerOf b)
@@ -85,3 +96,4 @@ replyText R.Policy l bytes b = hexOf 2 (policyNumber (mixerOf b .«stealing_poli
 replyText R.Configuration l bytes b = configText (mixerOf b .config)
 replyText (R.Voice i) l bytes b = voiceText (voiceRead (mixerOf b) i)
 replyText R.Ranks l bytes b = ranksText b
+replyText R.Waiting l bytes b = waitingText (waitingIn b)

@@ -4,8 +4,8 @@ ghost use Rattle.bank.specs.Banks.{toldPayload};
 ghost use Rattle.error.specs.Told.{numberIn};
 ghost use Rattle.mixer.specs.Mixers.{voiceRead};
 ghost use Rattle.hex.specs.Hex.{Wrote};
-ghost use Rattle.replay_box.specs.Boxes.{ValidBox, mixerOf};
-ghost use Rattle.replay_replies.specs.Texts.{entryText, payloadText, twoText, wideTwoText, configText, voiceText, ranksText, replyText};
+ghost use Rattle.replay_box.specs.Boxes.{ValidBox, mixerOf, waitingIn};
+ghost use Rattle.replay_replies.specs.Texts.{entryText, payloadText, twoText, wideTwoText, labelledText, configText, voiceText, ranksText, waitingText, replyText};
 use bank::EffectEntry;
 use bank::PayloadRead;
 use config::AudioConfig;
@@ -18,6 +18,7 @@ use mixer::VoiceRead;
 use replay_box::OpenBox;
 use replay_calls::Reply;
 use replay_cells::put_u8s;
+use replay_cells::put_u16s;
 use replay_dump::mode_number;
 use replay_dump::policy_number;
 use replay_dump::put_dump;
@@ -35,6 +36,14 @@ fn put_wide_two(out: &mut [u8; 262144], a: u64, b: u64) -> usize
     ensures { λ r. ⌜ Wrote (now (out .entry)) 0 (wideTwoText a b) (now (out .exit)) r ⌝ }
 {
     let n1 = put(out, 0, a, 4);
+    let n2 = put(out, n1, b, 4);
+    end_line(out, n2)
+}
+
+fn put_labelled(out: &mut [u8; 262144], a: u64, b: u64) -> usize
+    ensures { λ r. ⌜ Wrote (now (out .entry)) 0 (labelledText a b) (now (out .exit)) r ⌝ }
+{
+    let n1 = put(out, 0, a, 2);
     let n2 = put(out, n1, b, 4);
     end_line(out, n2)
 }
@@ -71,6 +80,15 @@ fn put_ranks(out: &mut [u8; 262144], e: OpenBox) -> usize
     let ranks = e.ranks();
     let n = e.voice_count();
     put_u8s(out, 0, 0, &ranks[..n])
+}
+
+fn put_waiting(out: &mut [u8; 262144], e: OpenBox) -> usize
+    requires { ⌜ ValidBox e ⌝ }
+    ensures { λ r. ⌜ Wrote (now (out .entry)) 0 (waitingText (waitingIn e)) (now (out .exit)) r ⌝ }
+{
+    let labels = e.waiting_labels();
+    let n = e.waiting_count();
+    put_u16s(out, n as u64, 2, &labels[..n])
 }
 
 fn put_entry(out: &mut [u8; 262144], e: EffectEntry) -> usize
@@ -120,6 +138,7 @@ pub fn put_reply(reply: Reply, l: &[u8], bytes: &[u8], e: OpenBox, out: &mut [u8
         Reply::Two(a, b) => put_two(out, a, b),
         Reply::Wide(n) => put_line(out, n, 4),
         Reply::WideTwo(a, b) => put_wide_two(out, a, b),
+        Reply::Labelled(a, b) => put_labelled(out, a, b),
         Reply::Entry(entry) => put_entry(out, entry),
         Reply::Payload => put_payload(l, bytes, e, out),
         Reply::Dump => {
@@ -136,5 +155,6 @@ pub fn put_reply(reply: Reply, l: &[u8], bytes: &[u8], e: OpenBox, out: &mut [u8
         }
         Reply::Voice(i) => put_voice_at(out, e, i),
         Reply::Ranks => put_ranks(out, e),
+        Reply::Waiting => put_waiting(out, e),
     }
 }

@@ -11,8 +11,8 @@ use Rattle.hex.specs.Hex.{byteAt, wideAt}
 use Rattle.replay_box.specs.declared.OpenBox.{OpenBox}
 use Rattle.replay_fills.specs.Fills.{Fill, fillFor, Shows}
 use Rattle.replay_fills.specs.declared.Shown.{Shown}
-use Rattle.replay_calls.specs.Calls.{called}
 use Rattle.replay_calls.specs.declared.Called.{Called}
+use Rattle.replay_waits.specs.Waits.{calledAny}
 use Rattle.replay_session.specs.Sessions.{LaidAnswer, badLine, calledAnswer, callAnswer, fillAllowed, filledAnswer, fillAnswer}
 use Rattle.replay_session.specs.declared.Session.{Session}
 
@@ -20,7 +20,7 @@ pub not-open : (s : Session) (bytes l : List ℕ) → s .«is_open» ≡ false �
 unfolding callAnswer
 not-open s bytes l e = rw e
 
-pub calls-as : (s : Session) (bytes l : List ℕ) {c : Called} → s .«is_open» ≡ true → c ≡ called l bytes (s .held) → callAnswer s bytes l ≡ calledAnswer s bytes l c
+pub calls-as : (s : Session) (bytes l : List ℕ) {c : Called} → s .«is_open» ≡ true → c ≡ calledAny l bytes (s .held) → callAnswer s bytes l ≡ calledAnswer s bytes l c
 unfolding callAnswer
 calls-as s bytes l o k = rw (o, k)
 
@@ -28,17 +28,17 @@ calls-as s bytes l o k = rw (o, k)
 abbrev run : Session → OpenBox → Session
 run s b = record { «is_open» = s .«is_open»; lent = s .lent; held = b }
 
-pub fill-shut : (s : Session) (l : List ℕ) → s .«is_open» ≡ false → fillAnswer s l ≡ badLine s
+pub fill-shut : (s : Session) (bytes l : List ℕ) → s .«is_open» ≡ false → fillAnswer s bytes l ≡ badLine s
 unfolding fillAnswer
-fill-shut s l e = rw e
+fill-shut s bytes l e = rw e
 
-pub fill-bad : (s : Session) (l : List ℕ) → s .«is_open» ≡ true → fillAllowed l ≡ false → fillAnswer s l ≡ badLine s
+pub fill-bad : (s : Session) (bytes l : List ℕ) → s .«is_open» ≡ true → fillAllowed l ≡ false → fillAnswer s bytes l ≡ badLine s
 unfolding fillAnswer
-fill-bad s l o e = rw (o, e)
+fill-bad s bytes l o e = rw (o, e)
 
-pub fills-as : (s : Session) (l : List ℕ) {code n : ℕ} → s .«is_open» ≡ true → fillAllowed l ≡ true → code ≡ byteAt l 0 → n ≡ wideAt l 1 → fillAnswer s l ≡ filledAnswer s (fillFor code n (s .held))
+pub fills-as : (s : Session) (bytes l : List ℕ) {code n : ℕ} → s .«is_open» ≡ true → fillAllowed l ≡ true → code ≡ byteAt l 0 → n ≡ wideAt l 1 → fillAnswer s bytes l ≡ filledAnswer s (fillFor code n bytes (s .held))
 unfolding fillAnswer
-fills-as s l o e c k = rw (o, e, c, k)
+fills-as s bytes l o e c k = rw (o, e, c, k)
 
 both-right : (a b : Bool) → (a && b) ≡ true → b ≡ true
 both-right true b e = e

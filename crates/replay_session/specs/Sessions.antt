@@ -16,7 +16,7 @@ use Rattle.hex.specs.Hex.{allDigits, byteAt, wideAt, longAt, hexOf, newline, Wr
 use Rattle.replay_fields.specs.Read.{modeOf}
 use Rattle.replay_box.specs.Boxes.{ValidBox, noBox, opened}
 use Rattle.replay_box.specs.declared.OpenBox.{OpenBox}
-use Rattle.replay_calls.specs.Calls.{sizedAs, called}
+use Rattle.replay_calls.specs.Calls.{sizedAs}
 use Rattle.replay_calls.specs.declared.Called.{Called}
 use Rattle.replay_calls.specs.declared.Reply.{Reply}
 use Rattle.replay_calls.specs.declared.Reply.the-variants as R
@@ -24,6 +24,7 @@ use Rattle.replay_fills.specs.Fills.{Fill, fillFor}
 use Rattle.replay_leaves.specs.Replies.{replyOf}
 use Rattle.replay_leaves.specs.Answers as A
 use Rattle.replay_replies.specs.Texts.{badText, replyText}
+use Rattle.replay_waits.specs.Waits.{isWait, calledAny}
 use Rattle.replay_session.specs.declared.Session.{Session}
 use Rattle.replay_session.specs.declared.SessionAnswered.{SessionAnswered}
 
@@ -102,6 +103,7 @@ goesOn (R.Number n) = true
 goesOn (R.Two a b) = true
 goesOn (R.Wide n) = true
 goesOn (R.WideTwo a b) = true
+goesOn (R.Labelled a b) = true
 goesOn (R.Entry e) = true
 goesOn R.Payload = true
 goesOn R.Dump = true
@@ -109,6 +111,7 @@ goesOn R.Policy = true
 goesOn R.Configuration = true
 goesOn (R.Voice i) = true
 goesOn R.Ranks = true
+goesOn R.Waiting = true
 
 abbrev pub calledAnswer : Session → List ℕ → List ℕ → Called → Answer
 calledAnswer s bytes l c =
@@ -118,9 +121,9 @@ calledAnswer s bytes l c =
       session = record { «is_open» = s .«is_open»; lent = s .lent; held = c .held };
     }
 
--- 11, 13 to 1D, 2B, 2C, 30, 62 to 69: "any record but 10 and the 4x ones before an engine is open" is bad
+-- 11, 13 to 1D, 2B, 2C, 30, 62 to 69, 73 to 7A: "any record but 10 and the 4x ones before an engine is open" is bad
 unfoldable pub callAnswer : Session → List ℕ → List ℕ → Answer
-callAnswer s bytes l = cond (s .«is_open») (calledAnswer s bytes l (called l bytes (s .held))) (badLine s)
+callAnswer s bytes l = cond (s .«is_open») (calledAnswer s bytes l (calledAny l bytes (s .held))) (badLine s)
 
 -- 20 to 2A: "cells (2) | filled". "At most 2,048 cells in one record."
 abbrev pub fillAllowed : List ℕ → Bool
@@ -134,17 +137,21 @@ filledAnswer s f =
       session = record { «is_open» = s .«is_open»; lent = s .lent; held = f .held };
     }
 
-unfoldable pub fillAnswer : Session → List ℕ → Answer
-fillAnswer s l =
-    cond (s .«is_open» && fillAllowed l) (filledAnswer s (fillFor (byteAt l 0) (wideAt l 1) (s .held))) (badLine s)
+unfoldable pub fillAnswer : Session → List ℕ → List ℕ → Answer
+fillAnswer s bytes l =
+    cond (s .«is_open» && fillAllowed l) (filledAnswer s (fillFor (byteAt l 0) (wideAt l 1) bytes (s .held))) (badLine s)
 
 -- the records that need no engine, 40 and up, and the codes of none
 unfoldable pub aloneAnswer : Session → List ℕ → Answer
 aloneAnswer s l = record { text = A.replyText l; more = A.goesOn (replyOf l); session = s }
 
 -- the codes 11, 13 to 1D, 2B, 2C, 30, 62 to 69, 73, 79 and 7A
+abbrev pub isPlainCall : ℕ → Bool
+isPlainCall code = eqb code 0x11 || (leb 0x13 code && leb code 0x1D) || eqb code 0x2B || eqb code 0x2C || eqb code 0x30 || (leb 0x62 code && leb code 0x69) || eqb code 0x73 || eqb code 0x79 || eqb code 0x7A
+
+-- and those of requests that wait, 74 to 78
 abbrev pub isCall : ℕ → Bool
-isCall code = eqb code 0x11 || (leb 0x13 code && leb code 0x1D) || eqb code 0x2B || eqb code 0x2C || eqb code 0x30 || (leb 0x62 code && leb code 0x69) || eqb code 0x73 || eqb code 0x79 || eqb code 0x7A
+isCall code = isWait code || isPlainCall code
 
 -- the codes 20 to 2A
 abbrev pub isFill : ℕ → Bool
@@ -156,7 +163,7 @@ answerFor code s bytes l =
     (cond (eqb code 0x70) (openAnswer true s l)
     (cond (eqb code 0x12) (lendAnswer s l)
     (cond (isCall code) (callAnswer s bytes l)
-    (cond (isFill code) (fillAnswer s l)
+    (cond (isFill code) (fillAnswer s bytes l)
     (aloneAnswer s l)))))
 
 -- "No good line is longer than 8,194 digits; a longer one is bad"

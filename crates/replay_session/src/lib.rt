@@ -5,7 +5,7 @@ ghost use lib.ListN.{length, take};
 ghost use lib.Seq.{sets};
 ghost use Rattle.laws.specs.Made.{Made};
 ghost use Rattle.hex.specs.Hex.{byteAt};
-ghost use Rattle.replay_session.specs.Sessions.{bytesAt, ValidSession, LaidAnswer, Answers, started, policyOf, configAt, opens, openAnswer, lendAnswer, lentOver, goesOn, callAnswer, fillAnswer, fillAllowed, aloneAnswer, isCall, isFill, answerFor, sessionAnswer, badLine, cellsFor, cellsAfter};
+ghost use Rattle.replay_session.specs.Sessions.{bytesAt, ValidSession, LaidAnswer, Answers, started, policyOf, configAt, opens, openAnswer, lendAnswer, lentOver, goesOn, callAnswer, fillAnswer, fillAllowed, aloneAnswer, isPlainCall, isCall, isFill, answerFor, sessionAnswer, badLine, cellsFor, cellsAfter};
 use config::AudioConfig;
 use hex::all_digits;
 use hex::byte_at;
@@ -56,6 +56,13 @@ impl Session {
         ensures { λ r. ⌜ r ≡ self .«is_open» ⌝ }
     {
         self.is_open
+    }
+
+    // How many bytes are lent, the first of those that are kept for it.
+    pub fn lent(self) -> usize
+        ensures { λ r. ⌜ r ≡ self .lent ⌝ }
+    {
+        self.lent
     }
 
     pub fn held(self) -> OpenBox
@@ -201,6 +208,7 @@ fn goes_on(r: Reply) -> bool
         Reply::Two(_, _) => true,
         Reply::Wide(_) => true,
         Reply::WideTwo(_, _) => true,
+        Reply::Labelled(_, _) => true,
         Reply::Entry(_) => true,
         Reply::Payload => true,
         Reply::Dump => true,
@@ -208,6 +216,7 @@ fn goes_on(r: Reply) -> bool
         Reply::Configuration => true,
         Reply::Voice(_) => true,
         Reply::Ranks => true,
+        Reply::Waiting => true,
     }
 }
 
@@ -223,7 +232,7 @@ fn call_answer(l: &[u8], s: Session, cells: &[u8], out: &mut [u8; 262144]) -> Se
     let n = s.lent;
     let b = s.held;
     let bytes = &cells[..n];
-    let c = replay_calls::call(l, bytes, b);
+    let c = replay_waits::call(l, bytes, b);
     let reply = c.reply;
     let held = c.held;
     let len = put_reply(reply, l, bytes, held, out);
@@ -241,10 +250,11 @@ pub fn fill_allowed(l: &[u8]) -> bool
     l.len() == 6 && wide_at(l, 1) <= 2048
 }
 
-// A record that fills a buffer.
-fn fill_answer(l: &[u8], s: Session, out: &mut [u8; 262144]) -> SessionAnswered
+// A record that fills a buffer; the bytes lent are the first of the cells.
+fn fill_answer(l: &[u8], s: Session, cells: &[u8], out: &mut [u8; 262144]) -> SessionAnswered
     requires { ⌜ ValidSession s ⌝ }
-    ensures { λ r. ⌜ LaidAnswer (fillAnswer s (now (l .entry))) (now (out .entry)) (now (out .exit)) r ⌝ }
+    requires { ⌜ length (now cells) ≡ 4096 ⌝ }
+    ensures { λ r. ⌜ LaidAnswer (fillAnswer s (take (s .lent) (now (cells .entry))) (now (l .entry))) (now (out .entry)) (now (out .exit)) r ⌝ }
 {
     if !s.is_open {
         return bad(s, out);
@@ -252,8 +262,10 @@ fn fill_answer(l: &[u8], s: Session, out: &mut [u8; 262144]) -> SessionAnswered
     if !fill_allowed(l) {
         return bad(s, out);
     }
+    let n = s.lent;
     let b = s.held;
-    let f = fill(byte_at(l, 0), b, wide_at(l, 1) as usize, out);
+    let bytes = &cells[..n];
+    let f = fill(byte_at(l, 0), bytes, b, wide_at(l, 1) as usize, out);
     let held = f.held;
     let session = Session { held, ..s };
     SessionAnswered {
@@ -276,8 +288,8 @@ fn alone_answer(l: &[u8], s: Session, out: &mut [u8; 262144]) -> SessionAnswered
     }
 }
 
-fn is_call(code: u8) -> bool
-    ensures { λ r. ⌜ r ≡ isCall code ⌝ }
+fn is_plain_call(code: u8) -> bool
+    ensures { λ r. ⌜ r ≡ isPlainCall code ⌝ }
 {
     match code {
         0x11 => true,
@@ -291,6 +303,15 @@ fn is_call(code: u8) -> bool
         0x7a => true,
         _ => false,
     }
+}
+
+fn is_call(code: u8) -> bool
+    ensures { λ r. ⌜ r ≡ isCall code ⌝ }
+{
+    if replay_waits::is_wait(code) {
+        return true;
+    }
+    is_plain_call(code)
 }
 
 pub fn is_fill(code: u8) -> bool
@@ -330,7 +351,7 @@ fn answer_for(
         return call_answer(l, s, &*lent, out);
     }
     if is_fill(code) {
-        return fill_answer(l, s, out);
+        return fill_answer(l, s, &*lent, out);
     }
     alone_answer(l, s, out)
 }

@@ -15,17 +15,17 @@ use Rattle.sounder.specs.declared.fills.SounderFilled.{SounderFilled}
 use Rattle.sounder.specs.declared.ticks.SounderSides.{SounderSides}
 use Rattle.sounder.specs.declared.ticks.SounderWideSides.{SounderWideSides}
 
-module _ {s : Sounder} {r : SounderFilled} where
-  pub mono-one : {x : ℤ} {is : List ℤ} → Fills toI8 Once s (x ∷ []) r is → Made ValidSample (sampleBox (s .state)) (record { sounder = r .sounder; pcm = getD is 0 (pos 0) })
+module _ (bytes : List ℕ) {s : Sounder} {r : SounderFilled} where
+  pub mono-one : {x : ℤ} {is : List ℤ} → Fills toI8 Once bytes s (x ∷ []) r is → Made ValidSample (sampleBox bytes (s .state)) (record { sounder = r .sounder; pcm = getD is 0 (pos 0) })
   unfolding after given
   mono-one h = record { same = rw (h .content, ← h .state .same); valid = record { inside = h .state .valid } }
 
-  pub duty-one : {x : ℕ} {is : List ℕ} → Levels Duty s (x ∷ []) r is → Made ValidDuty (dutyBox (s .state)) (record { sounder = r .sounder; duty = getD is 0 0 })
+  pub duty-one : {x : ℕ} {is : List ℕ} → Levels Duty bytes s (x ∷ []) r is → Made ValidDuty (dutyBox bytes (s .state)) (record { sounder = r .sounder; duty = getD is 0 0 })
   unfolding after given
   duty-one h = record { same = rw (h .content, ← h .state .same); valid = record { inside = h .state .valid } }
 
-  pub stereo-one : {x y : ℤ} {is : List ℤ} → Fills toI8 Sides s (x ∷ y ∷ []) r is
-      → Made ValidSides (sidesBox (s .state)) (record { sounder = r .sounder; left = getD is 0 (pos 0); right = getD is 1 (pos 0) })
+  pub stereo-one : {x y : ℤ} {is : List ℤ} → Fills toI8 Sides bytes s (x ∷ y ∷ []) r is
+      → Made ValidSides (sidesBox bytes (s .state)) (record { sounder = r .sounder; left = getD is 0 (pos 0); right = getD is 1 (pos 0) })
   unfolding after given
   stereo-one h = record { same = rw (h .content, ← h .state .same); valid = record { inside = h .state .valid } }
 

@@ -9,6 +9,7 @@ use lib.ListN.{drop, replicate}
 use Rattle.bank.specs.Banks.{bankOf}
 use Rattle.bank.specs.declared.SoundBank.{SoundBank}
 use Rattle.config.specs.declared.AudioConfig.{AudioConfig}
+use Rattle.entering.specs.declared.Lined.{Lined}
 use Rattle.envelope.specs.Adsrs as A
 use Rattle.envelope.specs.declared.AdsrSpec.{AdsrSpec}
 use Rattle.error.specs.Told.{Told, value, refused, refusal}
@@ -30,7 +31,7 @@ use Rattle.voice.specs.Sources.{activeSource}
 use Rattle.voice.specs.Voices.{audible, silentVoice, stoppedVoice}
 use Rattle.voice.specs.declared.Voice.{Voice}
 use Rattle.sounder.specs.Calls.{stopped, bankMarks, banked, faded, fadedOn}
-use Rattle.sounder.specs.Sounders.{changedBox}
+use Rattle.sounder.specs.Sounders.{withPresent, changedBox}
 
 abbrev Silent : Voice → Type 0
 Silent v = audible v ≡ false
@@ -75,11 +76,12 @@ stopped-silent m h =
     let rest : All Silent (drop (m .n) (m .voices)) = rw (h .rest) (all-drop (m .n) (replicate 16 (silentVoice rate)) (all-replicate Silent 16 (silentVoice rate) (silent rate))) in
     all-stopped (m .n) (m .voices) rest
 
-pub stopped-settled : (p : Present) → Valid p
-    → stopped p ≡ settled (beside (M.stopped (p .mixer)) (record { voices = p .marks .voices; master = true; «sounds_on» = p .marks .«sounds_on» }))
+pub stopped-settled : (s : Lined) → Valid (s .present)
+    → stopped s .present
+    ≡ settled (beside (M.stopped (s .present .mixer)) (record { voices = s .present .marks .voices; master = true; «sounds_on» = s .present .marks .«sounds_on» }))
 unfolding M.stopped
-stopped-settled p h =
-    let m = p .mixer in
+stopped-settled s h =
+    let m = s .present .mixer in
     sym (silent-settled (M.stopped m) _ (length-mapFirst stoppedVoice (m .n) (m .voices) ∙ h .inside .full) (h .full) (stopped-silent m (h .inside)))
 
 bank-settled : (p : Present) (b : Told SoundBank) → Valid p
@@ -89,27 +91,30 @@ bank-settled p (value b) h =
     let v = silentVoice (b .«sample_rate_hz») in
     sym (silent-settled (M.holdingBank (p .mixer) b) (p .marks) refl (h .full) (all-replicate Silent 16 v (silent (b .«sample_rate_hz»))))
 
-pub banked-settled : (p : Present) (rate count len : ℕ) → Valid p
-    → banked p rate count len .sounder .state ≡ settled (beside (M.banked (p .mixer) rate count len .mixer) (p .marks))
+pub banked-settled : (s : Lined) (rate count len : ℕ) → Valid (s .present)
+    → banked s rate count len .sounder .state .present ≡ settled (beside (M.banked (s .present .mixer) rate count len .mixer) (s .present .marks))
 unfolding M.banked
-banked-settled p rate count len h = bank-settled p (bankOf rate count len) h
+banked-settled s rate count len h = bank-settled (s .present) (bankOf rate count len) h
 
 -- "A refusal changes nothing": 5 to 9, which come before voice 0 is released (`play` refused-before)
-pub faded-unchanged : (p : Present) (bytes : List ℕ) (id ms : ℕ) (adsr : AdsrSpec) (n : ℕ) → Valid p → F.fadedUnder true (p .mixer) bytes id ms adsr ≡ M.unchanged (p .mixer) n
-    → faded p bytes id ms adsr ≡ changedBox (O.Refused (refusal n)) p
-faded-unchanged p bytes id ms adsr n h e = rw e (ap (changedBox (O.Refused (refusal n))) (h .quiet))
+pub faded-unchanged : (s : Lined) (bytes : List ℕ) (id ms : ℕ) (adsr : AdsrSpec) (n : ℕ) → Valid (s .present)
+    → F.fadedUnder true (s .present .mixer) bytes id ms adsr ≡ M.unchanged (s .present .mixer) n → faded s bytes id ms adsr ≡ changedBox (O.Refused (refusal n)) s
+faded-unchanged s bytes id ms adsr n h e = rw e (ap (λ (p : Present). changedBox (O.Refused (refusal n)) (withPresent s p)) (h .quiet))
 
 -- 10, 15 and 16, which come at its entry start (`play` refused-there): voice 0 is released, and nothing stands beside it where it is inaudible then
-pub faded-released : (p : Present) (bytes : List ℕ) (id ms : ℕ) (adsr : AdsrSpec) (n : ℕ)
-    → F.fadedUnder true (p .mixer) bytes id ms adsr ≡ M.unchanged (F.firstReleased (p .mixer)) n
-    → faded p bytes id ms adsr ≡ changedBox (O.Refused (refusal n)) (settled (beside (F.firstReleased (p .mixer)) (p .marks)))
-faded-released p bytes id ms adsr n e = rw e
+pub faded-released : (s : Lined) (bytes : List ℕ) (id ms : ℕ) (adsr : AdsrSpec) (n : ℕ)
+    → F.fadedUnder true (s .present .mixer) bytes id ms adsr ≡ M.unchanged (F.firstReleased (s .present .mixer)) n
+    → faded s bytes id ms adsr ≡ changedBox (O.Refused (refusal n)) (withPresent s (settled (beside (F.firstReleased (s .present .mixer)) (s .present .marks))))
+faded-released s bytes id ms adsr n e = rw e
 
 -- the second fade call: "being turned down changes nothing at all", whatever the number
-pub on-refused : (p : Present) (bytes : List ℕ) (id ms : ℕ) (adsr : AdsrSpec) (n : ℕ) → Valid p → toldOutcome (fadedOn p bytes id ms adsr .outcome) ≡ refused n
-    → fadedOn p bytes id ms adsr .sounder .state ≡ p
-on-refused p bytes id ms adsr n h e = by-call (on-or-not (p .mixer) bytes id ms adsr)
+pub on-refused : (s : Lined) (bytes : List ℕ) (id ms : ℕ) (adsr : AdsrSpec) (n : ℕ) → Valid (s .present) → toldOutcome (fadedOn s bytes id ms adsr .outcome) ≡ refused n
+    → fadedOn s bytes id ms adsr .sounder .state ≡ s
+on-refused s bytes id ms adsr n h e = by-call (on-or-not (s .present .mixer) bytes id ms adsr)
   where
-    by-call : OnOrNot (p .mixer) (F.fadedUnder true (p .mixer) bytes id ms adsr) (F.fadedOn (p .mixer) bytes id ms adsr) → fadedOn p bytes id ms adsr .sounder .state ≡ p
-    by-call (turned k f o) = rw f (h .quiet)
+    m : Mixer
+    m = s .present .mixer
+
+    by-call : OnOrNot m (F.fadedUnder true m bytes id ms adsr) (F.fadedOn m bytes id ms adsr) → fadedOn s bytes id ms adsr .sounder .state ≡ s
+    by-call (turned k f o) = rw f (ap (withPresent s) (h .quiet))
     by-call (began d f) = never (ap turnedDown (sym (ap toldOutcome d) ∙ e))

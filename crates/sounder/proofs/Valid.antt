@@ -3,7 +3,7 @@ use Prim.Native.Nat.{ℕ}
 use mathlib.Core.Path.{_≡_, refl, ap, _∙_}
 use native.Mathlib.Omega.{arith}
 use mathlib.Core.Bool.{Bool, true, false, cond}
-use mathlib.Core.List.{List, map}
+use mathlib.Core.List.{List, [], map}
 use lib.Dec.{ltb}
 use lib.ListN.{length, getD}
 use lib.Seq.{map-set-same}
@@ -11,6 +11,8 @@ use Rattle.bank.specs.Banks.{bankOf}
 use Rattle.bank.specs.declared.SoundBank.{SoundBank}
 use Rattle.config.specs.Config.{defaultDuty}
 use Rattle.config.specs.declared.AudioConfig.{AudioConfig}
+use Rattle.entering.specs.Lined as E
+use Rattle.entering.specs.declared.Lined.{Lined}
 use Rattle.error.specs.Told.{Told, value, refused}
 use Rattle.laws.specs.Made.{Made}
 use Rattle.laws.proofs.Made.{made}
@@ -31,17 +33,29 @@ use Rattle.requests.specs.Presents.{ValidPresentPlayed}
 use Rattle.requests.specs.declared.PresentPlayed.{PresentPlayed}
 use Rattle.voice.specs.Voices.{audible, withPan, silentVoice}
 use Rattle.voice.specs.declared.Voice.{Voice}
-use Rattle.sounder.specs.Sounders.{ValidSounder, ValidSounderChanged, ValidSounderPlayed, boxed, changedBox, playedBox}
-use Rattle.sounder.specs.Calls.{openedTwo, defaultSounder, panned, withMasterGain, bankMarks, banked, fadeMarks, fadedBy}
+use Rattle.waiting.specs.Lines as W
+use Rattle.waiting.specs.declared.Kept.the-variants as K
+use Rattle.waiting.specs.declared.Line.{Line}
+use Rattle.waiting.specs.declared.LineChanged.{LineChanged}
+use Rattle.sounder.specs.Sounders.{ValidSounder, ValidSounderChanged, ValidSounderPlayed, unwaited, withPresent, boxed, changedBox, playedBox}
+use Rattle.sounder.specs.Calls.{openedTwo, defaultSounder, panned, withMasterGain, bankMarks, banked, fadeMarks, fadedBy, relined}
 use Rattle.sounder.specs.declared.SounderChanged.{SounderChanged}
 use Rattle.sounder.proofs.Heard.{Others, HeardBy}
 use Rattle.sounder.proofs.Settled.{silent}
 
+-- a box whose line stays
+kept-line : {s : Lined} {p : Present} → E.Valid s → Valid p → ValidSounder (boxed (withPresent s p))
+kept-line h g = record { inside = record { present = g; line = h .line } }
+
 -- ---- opening
-pub made-opened : {x c : Changed} {k : Marks} → Made M.ValidChanged x c → All (λ v. audible v ≡ false) (x .mixer .voices) → k ≡ noMarks true false
-    → Made ValidSounderChanged (changedBox (x .outcome) (beside (x .mixer) (noMarks true false))) (changedBox (c .outcome) (beside (c .mixer) k))
-made-opened {c = c} h a e =
-    record { same = rw (e, h .same); valid = record { inside = rw e (none-valid (c .mixer) true false (h .valid) (rw (h .same) a)) } }
+pub made-opened : {x c : Changed} {k : Marks} {l : Line} → Made M.ValidChanged x c → All (λ v. audible v ≡ false) (x .mixer .voices) → k ≡ noMarks true false
+    → Made W.Valid (W.lineOf []) l
+    → Made ValidSounderChanged (changedBox (x .outcome) (unwaited (beside (x .mixer) (noMarks true false)))) (changedBox (c .outcome) (E.lined (beside (c .mixer) k) K.Nothing l))
+made-opened {c = c} h a e n =
+    record {
+      same = rw (e, h .same, n .same);
+      valid = record { inside = record { present = rw e (none-valid (c .mixer) true false (h .valid) (rw (h .same) a)); line = n .valid } };
+    }
 
 default-opens : openedTwo defaultDuty .sounder ≡ boxed defaultSounder
 unfolding M.opened
@@ -69,21 +83,20 @@ panned-alike m i pan = by-place (ltb i (m .n))
     by-place true = map-set-same audible (m .voices) i (withPan v pan) (silentVoice 0) (pan-alike v pan)
     by-place false = refl
 
-pub made-panned : {p : Present} (i pan : ℕ) {m : Mixer} → Valid p → Made M.Valid (M.panned (p .mixer) i pan) m
-    → Made ValidSounder (boxed (panned p i pan)) (boxed (beside m (p .marks)))
-made-panned {p} i pan h g =
-    record { same = rw (g .same); valid = record { inside = changed-valid h _ (g .valid) (rw (g .same) (panned-alike (p .mixer) i pan)) } }
+pub made-panned : {s : Lined} (i pan : ℕ) {m : Mixer} → E.Valid s → Made M.Valid (M.panned (s .present .mixer) i pan) m
+    → Made ValidSounder (boxed (panned s i pan)) (boxed (withPresent s (beside m (s .present .marks))))
+made-panned {s} i pan h g =
+    record { same = rw (g .same); valid = kept-line h (changed-valid (h .present) _ (g .valid) (rw (g .same) (panned-alike (s .present .mixer) i pan))) }
 
-pub made-gain : {p : Present} (gain : ℕ) {m : Mixer} → Valid p → Made M.Valid (M.withMasterGain (p .mixer) gain) m
-    → Made ValidSounder (boxed (withMasterGain p gain)) (boxed (beside m (p .marks)))
+pub made-gain : {s : Lined} (gain : ℕ) {m : Mixer} → E.Valid s → Made M.Valid (M.withMasterGain (s .present .mixer) gain) m
+    → Made ValidSounder (boxed (withMasterGain s gain)) (boxed (withPresent s (beside m (s .present .marks))))
 unfolding M.withMasterGain
-made-gain {p} gain h g =
-    record { same = rw (g .same); valid = record { inside = changed-valid h _ (g .valid) (rw (g .same) refl) } }
+made-gain gain h g = record { same = rw (g .same); valid = kept-line h (changed-valid (h .present) _ (g .valid) (rw (g .same) refl)) }
 
 -- ---- what silences all
-pub made-stopped : (on : Bool) {x m : Mixer} {k : Marks} → Made M.Valid x m → All (λ v. audible v ≡ false) (x .voices) → k ≡ noMarks true on
-    → Made ValidSounder (boxed (beside x (noMarks true on))) (boxed (beside m k))
-made-stopped on {m = m} g a e = record { same = rw (e, g .same); valid = record { inside = rw e (none-valid m true on (g .valid) (rw (g .same) a)) } }
+pub made-stopped : {s : Lined} (on : Bool) {x m : Mixer} {k : Marks} → E.Valid s → Made M.Valid x m → All (λ v. audible v ≡ false) (x .voices) → k ≡ noMarks true on
+    → Made ValidSounder (boxed (withPresent s (beside x (noMarks true on)))) (boxed (withPresent s (beside m k)))
+made-stopped on {m = m} h g a e = record { same = rw (e, g .same); valid = kept-line h (rw e (none-valid m true on (g .valid) (rw (g .same) a))) }
 
 banked-valid : (p : Present) (b : Told SoundBank) → Valid p → M.Valid (M.bankedBy (p .mixer) b .mixer)
     → Valid (beside (M.bankedBy (p .mixer) b .mixer) (bankMarks (M.bankedBy (p .mixer) b .outcome) (p .marks)))
@@ -92,16 +105,21 @@ banked-valid p (value b) h g =
     let v = silentVoice (b .«sample_rate_hz») in
     none-valid _ (p .marks .master) (p .marks .«sounds_on») g (all-replicate (λ (w : Voice). audible w ≡ false) 16 v (silent (b .«sample_rate_hz»)))
 
-pub made-banked : {p : Present} (rate count len : ℕ) {c : Changed} {k : Marks} → Valid p → Made M.ValidChanged (M.banked (p .mixer) rate count len) c
-    → k ≡ bankMarks (c .outcome) (p .marks) → Made ValidSounderChanged (banked p rate count len) (changedBox (c .outcome) (beside (c .mixer) k))
+pub made-banked : {s : Lined} (rate count len : ℕ) {c : Changed} {k : Marks} → E.Valid s → Made M.ValidChanged (M.banked (s .present .mixer) rate count len) c
+    → k ≡ bankMarks (c .outcome) (s .present .marks) → Made ValidSounderChanged (banked s rate count len) (changedBox (c .outcome) (withPresent s (beside (c .mixer) k)))
 unfolding M.banked
-made-banked {p} rate count len h g e =
+made-banked {s} rate count len h g e =
     let v = rw (g .same) at (g .valid) in
-    made (rw (e, g .same)) (record { inside = banked-valid p (bankOf rate count len) h v })
+    made (rw (e, g .same)) (kept-line h (banked-valid (s .present) (bankOf rate count len) (h .present) v))
 
 -- ---- a play request
-pub made-played : {x r : PresentPlayed} → Made ValidPresentPlayed x r → Made ValidSounderPlayed (playedBox (x .outcome) (x .present)) (playedBox (r .outcome) (r .present))
-made-played h = record { same = ap (λ (q : PresentPlayed). playedBox (q .outcome) (q .present)) (h .same); valid = record { inside = h .valid } }
+pub made-played : {s : Lined} {x r : PresentPlayed} → E.Valid s → Made ValidPresentPlayed x r
+    → Made ValidSounderPlayed (playedBox (x .outcome) (withPresent s (x .present))) (playedBox (r .outcome) (withPresent s (r .present)))
+made-played {s} h g = record { same = ap (λ (q : PresentPlayed). playedBox (q .outcome) (withPresent s (q .present))) (g .same); valid = kept-line h (g .valid) }
+
+-- ---- leaving and withdrawing
+pub made-relined : {s : Lined} {x c : LineChanged} → E.Valid s → Made W.ValidChanged x c → Made ValidSounderChanged (relined s x) (relined s c)
+made-relined {s} h g = record { same = ap (relined s) (g .same); valid = record { inside = record { present = h .present; line = g .valid } } }
 
 -- ---- a fade, of either call
 fade-length : (on : Bool) (o : Outcome) (k : Marks) → length (fadeMarks on o k .voices) ≡ length (k .voices)
@@ -118,27 +136,28 @@ pub faded-order : (on : Bool) {p : Present} {x c : Changed} → Valid p → Made
     → Ordered (map audible (c .mixer .voices)) (fadeMarks on (c .outcome) (p .marks) .voices)
 faded-order on {p} {c = c} h g a = fade-order on p (c .outcome) (c .mixer) h (rw (g .same) a)
 
-pub made-settled : (on : Bool) {p : Present} {c : Changed} {k : Marks} {s : Present} → Valid p → M.ValidChanged c
-    → Ordered (map audible (c .mixer .voices)) (fadeMarks on (c .outcome) (p .marks) .voices) → k ≡ fadeMarks on (c .outcome) (p .marks) → s ≡ settled (beside (c .mixer) k)
-    → Made ValidSounderChanged (fadedBy on p c) (changedBox (c .outcome) s)
-made-settled on {p} {c} h v o e f =
+pub made-settled : (on : Bool) {s : Lined} {c : Changed} {k : Marks} {p : Present} → E.Valid s → M.ValidChanged c
+    → Ordered (map audible (c .mixer .voices)) (fadeMarks on (c .outcome) (s .present .marks) .voices) → k ≡ fadeMarks on (c .outcome) (s .present .marks)
+    → p ≡ settled (beside (c .mixer) k) → Made ValidSounderChanged (fadedBy on s c) (changedBox (c .outcome) (withPresent s p))
+made-settled on {s} {c} h v o e f =
     record {
       same = rw (f, e);
-      valid = record { inside = rw (f, e) (settled-valid _ v (fade-length on (c .outcome) (p .marks) ∙ h .full) o) };
+      valid = kept-line h (rw (f, e) (settled-valid _ v (fade-length on (c .outcome) (s .present .marks) ∙ h .present .full) o));
     }
 
-pub made-faded : (on : Bool) (p : Present) {x c : Changed} {r : SounderChanged} → Made M.ValidChanged x c → Made ValidSounderChanged (fadedBy on p c) r
-    → Made ValidSounderChanged (fadedBy on p x) r
-made-faded on p g h = rw (← g .same) h
+pub made-faded : (on : Bool) (s : Lined) {x c : Changed} {r : SounderChanged} → Made M.ValidChanged x c → Made ValidSounderChanged (fadedBy on s c) r
+    → Made ValidSounderChanged (fadedBy on s x) r
+made-faded on s g h = rw (← g .same) h
 
 -- voice 0 started, in a state that a step of the parts gave
-module _ {p : Present} {x m : Mixer} {k : Marks} (h : Valid p) (g : Made M.Valid x m) (a : Others 0 (p .mixer) x) (e : k ≡ markedAt 0 startedMark (p .marks)) where
+module _ {s : Lined} {x m : Mixer} {k : Marks} (h : E.Valid s) (g : Made M.Valid x m) (a : Others 0 (s .present .mixer) x) (e : k ≡ markedAt 0 startedMark (s .present .marks)) where
   pub first-order : Ordered (map audible (m .voices)) (k .voices)
-  first-order = rw e (begun-order h 0 (omega arith) m (rw (g .same) a))
+  first-order = rw e (begun-order (h .present) 0 (omega arith) m (rw (g .same) a))
 
-  pub made-first : {s : Present} → s ≡ settled (beside m k) → Made ValidSounder (boxed (settled (beside x (markedAt 0 startedMark (p .marks))))) (boxed s)
+  pub made-first : {p : Present} → p ≡ settled (beside m k)
+      → Made ValidSounder (boxed (withPresent s (settled (beside x (markedAt 0 startedMark (s .present .marks)))))) (boxed (withPresent s p))
   made-first f =
       record {
         same = rw (f, e, g .same);
-        valid = record { inside = rw f (settled-valid _ (g .valid) (rw e (marked-length 0 startedMark (p .marks) ∙ h .full)) first-order) };
+        valid = kept-line h (rw f (settled-valid _ (g .valid) (rw e (marked-length 0 startedMark (s .present .marks) ∙ h .present .full)) first-order));
       }

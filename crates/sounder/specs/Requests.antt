@@ -13,7 +13,7 @@ use Rattle.sounder.specs.declared.Sounder.{Sounder}
 abbrev pub player : R.Player Sounder
 player =
     record {
-      mixer = λ s. s .state .mixer;
+      mixer = λ s. s .state .present .mixer;
       told = λ s bytes r. toldPlay (played (s .state) bytes r .outcome);
       next = λ s bytes r. played (s .state) bytes r .sounder;
     }

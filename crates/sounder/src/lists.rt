@@ -2,6 +2,7 @@
 ghost use Rattle.sounder.specs.Sounders.{ValidSounder};
 ghost use Rattle.sounder.specs.Requests.{PlaysAll, PlaysEach};
 use crate::Sounder;
+use entering::Lined;
 
 impl Sounder {
     // Plays every request of the slice, one after another. Fewer than ten bytes at its end are no request.
@@ -19,7 +20,9 @@ impl Sounder {
         requires { ⌜ ValidSounder self ⌝ }
         ensures { λ r. ⌜ PlaysEach self (now (bytes .entry)) (now (requests .entry)) (now (outcomes .entry)) r (now (outcomes .exit)) ⌝ }
     {
-        let state = requests::play_each(self.state, bytes, requests, outcomes, true);
+        let lined = self.state;
+        let present = requests::play_each(lined.present, bytes, requests, outcomes, true);
+        let state = Lined { present, ..lined };
         Sounder { state }
     }
 }

@@ -10,6 +10,7 @@ ghost use Rattle.sounder.specs.Calls.{played, fadeMarks, fadedBy, faded,
 use super::Sounder;
 use super::SounderChanged;
 use super::SounderPlayed;
+use entering::Lined;
 use envelope::AdsrSpec;
 use marks::Marks;
 use marks::Present;
@@ -57,9 +58,11 @@ impl Sounder {
             adsr,
             priority,
         };
-        let q = requests::play_request(self.state, bytes, request);
+        let lined = self.state;
+        let q = requests::play_request(lined.present, bytes, request);
         let outcome = q.outcome;
-        let state = q.present;
+        let present = q.present;
+        let state = Lined { present, ..lined };
         SounderPlayed {
             outcome,
             sounder: Sounder { state },
@@ -69,15 +72,17 @@ impl Sounder {
     // What a fade's call made of the mixer, in its box.
     fn faded(self, c: Changed, sounds_on: bool) -> SounderChanged
         requires { ⌜ ValidSounder self ⌝ }
-        requires { ⌜ M.ValidChanged c × Ordered (map audible (c .mixer .voices)) (fadeMarks «sounds_on» (c .outcome) (self .state .marks) .voices) ⌝ }
+        requires { ⌜ M.ValidChanged c × Ordered (map audible (c .mixer .voices)) (fadeMarks «sounds_on» (c .outcome) (self .state .present .marks) .voices) ⌝ }
         ensures { λ r. ⌜ Made ValidSounderChanged (fadedBy «sounds_on» (self .state) c) r ⌝ }
     {
-        let old = self.state.marks;
+        let lined = self.state;
+        let p = lined.present;
         let outcome = c.outcome;
         let mixer = c.mixer;
-        let marks = fade_marks(outcome, old, sounds_on);
+        let marks = fade_marks(outcome, p.marks, sounds_on);
         let begun = Present { mixer, marks };
-        let state = begun.settled();
+        let present = begun.settled();
+        let state = Lined { present, ..lined };
         SounderChanged {
             outcome,
             sounder: Sounder { state },
@@ -101,7 +106,8 @@ impl Sounder {
         requires { ⌜ ValidSounder self ⌝ }
         ensures { λ r. ⌜ Made ValidSounderChanged (faded (self .state) (now (bytes .entry)) «effect_id» «duration_ms» adsr) r ⌝ }
     {
-        let m = self.state.mixer;
+        let p = self.state.present;
+        let m = p.mixer;
         let c = play::fades::crossfade_to(m, bytes, effect_id, duration_ms, adsr, true);
         self.faded(c, false)
     }
@@ -119,7 +125,8 @@ impl Sounder {
         requires { ⌜ ValidSounder self ⌝ }
         ensures { λ r. ⌜ Made ValidSounderChanged (fadedOn (self .state) (now (bytes .entry)) «effect_id» «duration_ms» adsr) r ⌝ }
     {
-        let m = self.state.mixer;
+        let p = self.state.present;
+        let m = p.mixer;
         let c = play::fades::crossfade_sounding_on(m, bytes, effect_id, duration_ms, adsr);
         self.faded(c, true)
     }
@@ -128,12 +135,14 @@ impl Sounder {
         requires { ⌜ ValidSounder self ⌝ }
         ensures { λ r. ⌜ Made ValidSounder (boxed (toned (self .state) «freq_hz» «duration_ms» waveform)) r ⌝ }
     {
-        let m = self.state.mixer;
-        let old = self.state.marks;
-        let mixer = play::play_tone(m, freq_hz, duration_ms, waveform);
+        let lined = self.state;
+        let p = lined.present;
+        let old = p.marks;
+        let mixer = play::play_tone(p.mixer, freq_hz, duration_ms, waveform);
         let marks = old.started(0);
         let toned = Present { mixer, marks };
-        let state = toned.settled();
+        let present = toned.settled();
+        let state = Lined { present, ..lined };
         Sounder { state }
     }
 
@@ -146,12 +155,14 @@ impl Sounder {
         requires { ⌜ ValidSounder self ⌝ }
         ensures { λ r. ⌜ Made ValidSounder (boxed (polyBleped (self .state) «freq_hz» «duration_ms» waveform)) r ⌝ }
     {
-        let m = self.state.mixer;
-        let old = self.state.marks;
-        let mixer = play::play_polyblep(m, freq_hz, duration_ms, waveform);
+        let lined = self.state;
+        let p = lined.present;
+        let old = p.marks;
+        let mixer = play::play_polyblep(p.mixer, freq_hz, duration_ms, waveform);
         let marks = old.started(0);
         let bleped = Present { mixer, marks };
-        let state = bleped.settled();
+        let present = bleped.settled();
+        let state = Lined { present, ..lined };
         Sounder { state }
     }
 }

@@ -1,4 +1,4 @@
-// The calls of one frame: each is its buffer call on one cell, or one pair.
+// The calls of one frame: each is its buffer call on one cell, or one pair, and is lent the bank's bytes as that is.
 ghost use Rattle.laws.specs.Made.{Made};
 ghost use Rattle.sounder.specs.Sounders.{ValidSounder};
 ghost use Rattle.sounder.specs.Frames.{ValidSample, ValidDuty, ValidSides, ValidWideSides, sampleBox, dutyBox, sidesBox, wideSides};
@@ -30,12 +30,12 @@ pub struct SounderWideSides {
 }
 
 impl Sounder {
-    pub fn tick_pcm(self) -> SounderSample
+    pub fn tick_pcm(self, bytes: &[u8]) -> SounderSample
         requires { ⌜ ValidSounder self ⌝ }
-        ensures { λ r. ⌜ Made ValidSample (sampleBox (self .state)) r ⌝ }
+        ensures { λ r. ⌜ Made ValidSample (sampleBox (now (bytes .entry)) (self .state)) r ⌝ }
     {
         let mut cell = [0i8; 1];
-        let f = self.fill_pcm_i8_buffer(&mut cell);
+        let f = self.fill_pcm_i8_buffer(bytes, &mut cell);
         let sounder = f.sounder;
         SounderSample {
             sounder,
@@ -43,12 +43,12 @@ impl Sounder {
         }
     }
 
-    pub fn tick(self) -> SounderDuty
+    pub fn tick(self, bytes: &[u8]) -> SounderDuty
         requires { ⌜ ValidSounder self ⌝ }
-        ensures { λ r. ⌜ Made ValidDuty (dutyBox (self .state)) r ⌝ }
+        ensures { λ r. ⌜ Made ValidDuty (dutyBox (now (bytes .entry)) (self .state)) r ⌝ }
     {
         let mut cell = [0u16; 1];
-        let f = self.fill_duty_buffer(&mut cell);
+        let f = self.fill_duty_buffer(bytes, &mut cell);
         let sounder = f.sounder;
         SounderDuty {
             sounder,
@@ -57,19 +57,19 @@ impl Sounder {
     }
 
     // Another name of tick.
-    pub fn tick_pwm(self) -> SounderDuty
+    pub fn tick_pwm(self, bytes: &[u8]) -> SounderDuty
         requires { ⌜ ValidSounder self ⌝ }
-        ensures { λ r. ⌜ Made ValidDuty (dutyBox (self .state)) r ⌝ }
+        ensures { λ r. ⌜ Made ValidDuty (dutyBox (now (bytes .entry)) (self .state)) r ⌝ }
     {
-        self.tick()
+        self.tick(bytes)
     }
 
-    pub fn tick_stereo_pcm(self) -> SounderSides
+    pub fn tick_stereo_pcm(self, bytes: &[u8]) -> SounderSides
         requires { ⌜ ValidSounder self ⌝ }
-        ensures { λ r. ⌜ Made ValidSides (sidesBox (self .state)) r ⌝ }
+        ensures { λ r. ⌜ Made ValidSides (sidesBox (now (bytes .entry)) (self .state)) r ⌝ }
     {
         let mut cells = [0i8; 2];
-        let f = self.fill_stereo_panned_i8_buffer(&mut cells);
+        let f = self.fill_stereo_panned_i8_buffer(bytes, &mut cells);
         let sounder = f.sounder;
         SounderSides {
             sounder,
@@ -78,11 +78,11 @@ impl Sounder {
         }
     }
 
-    pub fn tick_stereo_i16(self) -> SounderWideSides
+    pub fn tick_stereo_i16(self, bytes: &[u8]) -> SounderWideSides
         requires { ⌜ ValidSounder self ⌝ }
-        ensures { λ r. ⌜ Made ValidWideSides (wideSides (sidesBox (self .state))) r ⌝ }
+        ensures { λ r. ⌜ Made ValidWideSides (wideSides (sidesBox (now (bytes .entry)) (self .state))) r ⌝ }
     {
-        let s = self.tick_stereo_pcm();
+        let s = self.tick_stereo_pcm(bytes);
         let sounder = s.sounder;
         SounderWideSides {
             sounder,

@@ -4,18 +4,25 @@ use mathlib.Core.Path.{_≡_, refl, ap, _∙_}
 use mathlib.Core.Bool.{Bool, true, false, cond}
 use mathlib.Core.List.{List}
 use lib.Dec.{eqb}
+use Rattle.allocate.specs.Allocation.{placeOf}
 use Rattle.entering.specs.Entering.{enteredIn}
-use Rattle.entering.specs.Lined.{Valid}
 use Rattle.entering.specs.declared.Lined.{Lined}
-use Rattle.entering.proofs.Fates.{enters}
+use Rattle.entering.proofs.Laws.{enter-keeps}
 use Rattle.frame.specs.Fades.{fadeEndedWith, fadeEndedBy, fadeAt, nextT, advancedBy, advanced}
 use Rattle.frame.specs.Lasting.{SameFade}
 use Rattle.marks.specs.Marks.{settled}
 use Rattle.marks.specs.declared.Present.{Present}
+use Rattle.mixer.specs.Mixers.{withVoices}
 use Rattle.mixer.specs.declared.Mixer.{Mixer}
+use Rattle.requests.specs.Presents.{playedPresent}
+use Rattle.requests.proofs.One.{rest-by}
+use Rattle.requests.proofs.Presents.{lawful}
+use Rattle.start.specs.Starts.{requestStart}
+use Rattle.start.specs.declared.Request.{Request}
 use Rattle.steps.specs.Steps.{Frame, mono, duty, stereo}
 use Rattle.frame.proofs.Fades.{mono-fade, stereo-fade}
 use Rattle.steps.proofs.Frames.{duty-fade}
+use Rattle.voice.specs.declared.Voice.{Voice}
 use Rattle.spans.specs.Frames.{frameStep, framedLined}
 
 both : {a b c : Mixer} → SameFade a b → SameFade b c → SameFade a c
@@ -37,14 +44,23 @@ advanced-same {a} {b} f =
         → SameFade (cond x (cond y (fadeEndedBy false a) (fadeAt a t)) a) (cond x′ (cond y′ (fadeEndedBy false b) (fadeAt b t′)) b)
     alike {x} {x′} {y} {y′} {t} {t′} e g n = rw (e, g, n) (by-case x′ y′ t′)
 
-pub enter-fade : (bytes : List ℕ) (s : Lined) → Valid s → SameFade (enteredIn bytes s .present .mixer) (s .present .mixer)
-enter-fade bytes s h =
-    let e = enters bytes s h .rest in
+-- whichever voice a request gets, nothing but voices changes
+pub voices-fade : {m a : Mixer} {vs : List Voice} → a ≡ withVoices m vs → SameFade a m
+voices-fade e =
     record {
-      active = ap (λ (m : Mixer). m .«crossfade_active») e;
-      t = ap (λ (m : Mixer). m .«crossfade_t_q8») e;
-      step = ap (λ (m : Mixer). m .«crossfade_step_q8») e;
+      active = ap (λ (x : Mixer). x .«crossfade_active») e;
+      t = ap (λ (x : Mixer). x .«crossfade_t_q8») e;
+      step = ap (λ (x : Mixer). x .«crossfade_step_q8») e;
     }
+
+pub played-fade : (p : Present) (bytes : List ℕ) (r : Request) → SameFade (playedPresent p bytes r .present .mixer) (p .mixer)
+played-fade p bytes r =
+    let l = lawful true in
+    voices-fade (l .leaves p bytes r ∙ rest-by (p .mixer) (placeOf (l .choice p (r .priority))) (requestStart (p .mixer .bank) bytes r))
+
+pub enter-fade : (bytes : List ℕ) (s : Lined) → SameFade (enteredIn bytes s .present .mixer) (s .present .mixer)
+enter-fade bytes s =
+    enter-keeps bytes (λ p. SameFade (p .mixer) (s .present .mixer)) (λ p r e h. both (played-fade p bytes r) h) s (record { active = refl; t = refl; step = refl })
 
 step-fade : (f : Frame) (p : Present) → SameFade (frameStep f p .mixer) (advanced (p .mixer))
 unfolding settled
@@ -53,5 +69,5 @@ step-fade duty p = duty-fade (p .marks) (p .mixer)
 step-fade stereo p = stereo-fade (p .marks) (p .mixer)
 
 -- a frame advances the fade, whoever goes in before it
-pub framed-fade : (f : Frame) (bytes : List ℕ) (s : Lined) → Valid s → SameFade (framedLined (frameStep f) bytes s .present .mixer) (advanced (s .present .mixer))
-framed-fade f bytes s h = both (step-fade f (enteredIn bytes s .present)) (advanced-same (enter-fade bytes s h))
+pub framed-fade : (f : Frame) (bytes : List ℕ) (s : Lined) → SameFade (framedLined (frameStep f) bytes s .present .mixer) (advanced (s .present .mixer))
+framed-fade f bytes s = both (step-fade f (enteredIn bytes s .present)) (advanced-same (enter-fade bytes s))

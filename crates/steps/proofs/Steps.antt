@@ -20,7 +20,7 @@ use Rattle.play.specs.Fades.{firstReleased, begun, faded}
 use Rattle.requests.specs.Players.{Player, playedAll}
 use Rattle.start.specs.declared.Request.{Request}
 use Rattle.voice.specs.declared.Voice.{Voice}
-use Rattle.steps.specs.Steps.{Frame, fade, turnedDown, Stepper, box, ByRule, FadeTakes}
+use Rattle.steps.specs.Steps.{fade, turnedDown, Stepper, box, ByRule, FadeTakes}
 use Rattle.steps.proofs.Calls.{Fading, down, begins, fading-by, leaves}
 
 -- a fade that has begun has its count left, and a step
@@ -37,7 +37,7 @@ both : {a b c : Mixer} → SameFade a b → SameFade b c → SameFade a c
 both f g = record { active = f .active ∙ g .active; t = f .t ∙ g .t; step = f .step ∙ g .step }
 
 -- ---- in any box that keeps the two laws, whatever calls it has
-module _ {State Calls : Type 0} (b : Box State Frame Calls) where
+module _ {State Frames Calls : Type 0} (b : Box State Frames Calls) where
   module _ (w : Lawful b) where
     -- ---- T-02: a fade that has begun
     pub begun-takes : (s after : State) (ms : ℕ) (m : Mixer) (v : Voice) → SameFade (b .mixer after) (begun m v (fadeStep ms (b .mixer s .config .«sample_rate_hz»)))
@@ -48,11 +48,11 @@ module _ {State Calls : Type 0} (b : Box State Frame Calls) where
         record { takes = λ ss u. lasts b w (fadeCount step) after ss (begun-moves m v step p f) (begun-left m v step p f) u }
 
     -- of a fade under way, what is left of it
-    pub fade-lasts : (s : State) (ss : List (Step Frame Calls)) → Valid (b .mixer s) → unbroken b ss s ≡ true → Lasts b (framesLeft (b .mixer s)) s ss
+    pub fade-lasts : (s : State) (ss : List (Step Frames Calls)) → Valid (b .mixer s) → unbroken b ss s ≡ true → Lasts b (framesLeft (b .mixer s)) s ss
     fade-lasts s ss h u = lasts b w (framesLeft (b .mixer s)) s ss (valid-moves h) refl u
 
   -- ---- a buffer call is so many frames (`buffers/Buffers` Fills): of what is in the box, where a frame of the box is a step of that
-  pub frame-run : {Inside : Type 0} (boxed : Inside → State) (f : Frame) (step : Inside → Inside) → ((i : Inside) → b .framed f (boxed i) ≡ boxed (step i)) → (n : ℕ) (i : Inside)
+  pub frame-run : {Inside : Type 0} (boxed : Inside → State) (f : Frames) (step : Inside → Inside) → ((i : Inside) → b .framed f (boxed i) ≡ boxed (step i)) → (n : ℕ) (i : Inside)
       → afterAll b (replicate n (frame f)) (boxed i) ≡ boxed (after step n i)
   unfolding afterAll after
   frame-run boxed f step h zero i = refl

@@ -88,5 +88,5 @@ module _ {State : Type 0} (b : Stepper State) where
 
 -- What document 02 promises of a fade that a box accepts, which may have other calls too: from the fade's call on, which made `begun` of s, it takes
 -- its count of frames, whatever steps come.
-pub record FadeTakes {State Calls : Type 0} (b : Box State Frame Calls) (s begun : State) (ms : ℕ) : Type 0 where
-  pub takes : (ss : List (Step Frame Calls)) → unbroken b ss begun ≡ true → Lasts b (fadeCount (fadeStep ms (b .mixer s .config .«sample_rate_hz»))) begun ss
+pub record FadeTakes {State Frames Calls : Type 0} (b : Box State Frames Calls) (s begun : State) (ms : ℕ) : Type 0 where
+  pub takes : (ss : List (Step Frames Calls)) → unbroken b ss begun ≡ true → Lasts b (fadeCount (fadeStep ms (b .mixer s .config .«sample_rate_hz»))) begun ss

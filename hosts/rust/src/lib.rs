@@ -21,7 +21,7 @@ mod script;
 mod writing;
 
 pub use bank::{Bank, Entry};
-pub use player::{DutyMode, Played, Player, Policy, PolyBlep, Request, Waveform};
+pub use player::{DutyMode, Leaving, Played, Player, Policy, PolyBlep, Request, Waited, Waveform};
 pub use refusal::Refusal;
 pub use script::{Ran, answers, answers_of, sound, sound_of};
 pub use writing::{NewEntry, bank_of, write_bank};

@@ -75,6 +75,30 @@ pub struct Played {
     pub audible: usize,
 }
 
+/// A request that is left under a label of its caller's choosing, to go in when a voice falls free.
+#[derive(Clone, Copy, Debug, PartialEq, Eq)]
+pub struct Leaving {
+    pub label: u16,
+    pub request: Request,
+}
+
+impl Leaving {
+    fn bytes(&self) -> Vec<u8> {
+        [&self.label.to_be_bytes()[..], &self.request.bytes()].concat()
+    }
+}
+
+/// What is told of requests that were left.
+#[derive(Clone, Debug, PartialEq, Eq)]
+pub struct Waited {
+    /// Whether each was accepted.
+    pub outcomes: Vec<Result<(), Refusal>>,
+    /// The labels that wait after the frames, next first.
+    pub labels: Vec<u16>,
+    /// Why the latest that was dropped was refused, and its label.
+    pub dropped: Option<(Refusal, u16)>,
+}
+
 /// A box of some voices with a policy and a master gain. Each call opens it anew, sets the bank and plays the requests one after
 /// another; those that give frames then let voice 0 sound the tone, where there is one. More than 16 voices, a rate above 65,537 and
 /// a bank whose entries go past its bytes are refused, and then nothing is written.
@@ -132,6 +156,47 @@ impl Player<'_> {
                 out.as_mut_ptr(),
                 out.len(),
             )
+        })
+    }
+
+    /// A mono frame in each cell, after requests were played and others left. No tone is sounded.
+    pub fn waiting_pcm_i16(
+        &self,
+        requests: &[Request],
+        left: &[Leaving],
+        out: &mut [i16],
+    ) -> Result<Waited, Refusal> {
+        let (bank, bytes) = (&self.bank, laid(requests));
+        let waiting: Vec<u8> = left.iter().flat_map(Leaving::bytes).collect();
+        let mut numbers = vec![0; left.len()];
+        let (mut labels, mut count, mut dropped) = ([0; 32], 0, [0; 2]);
+        Refusal::read(unsafe {
+            raw::birchjack_waiting_pcm_i16(
+                self.voices,
+                self.free_only(),
+                self.master_gain_q8,
+                bank.bytes.as_ptr(),
+                bank.bytes.len(),
+                bank.sample_rate_hz,
+                bank.effect_count,
+                bytes.as_ptr(),
+                bytes.len(),
+                waiting.as_ptr(),
+                waiting.len(),
+                numbers.as_mut_ptr(),
+                numbers.len(),
+                out.as_mut_ptr(),
+                out.len(),
+                &mut labels,
+                &mut count,
+                &mut dropped,
+            )
+        })?;
+        let [number, label] = dropped;
+        Ok(Waited {
+            outcomes: numbers.into_iter().map(Refusal::read).collect(),
+            labels: labels[..count].to_vec(),
+            dropped: Refusal::read(number as u8).err().map(|why| (why, label)),
         })
     }
 

@@ -1,4 +1,4 @@
-//! The library's functions as crates/exports and crates/exports_replay have them; `tools/header` compares the two. A slice is a pointer and then a length, an array a
+//! The library's functions as crates/exports, crates/exports_play and crates/exports_replay have them; `tools/header` compares the two. A slice is a pointer and then a length, an array a
 //! pointer.
 
 unsafe extern "C" {
@@ -117,6 +117,26 @@ unsafe extern "C" {
         polyblep_ms: u16,
         out: *mut i16,
         out_len: usize,
+    ) -> u8;
+    pub fn birchjack_waiting_pcm_i16(
+        n: usize,
+        free_only: bool,
+        master_gain_q8: u8,
+        bytes: *const u8,
+        bytes_len: usize,
+        sample_rate_hz: u32,
+        effect_count: u16,
+        requests: *const u8,
+        requests_len: usize,
+        left: *const u8,
+        left_len: usize,
+        numbers: *mut u8,
+        numbers_len: usize,
+        out: *mut i16,
+        out_len: usize,
+        labels: *mut [u16; 32],
+        count: *mut usize,
+        dropped: *mut [u16; 2],
     ) -> u8;
     pub fn birchjack_stereo_i16(
         n: usize,

@@ -1,8 +1,8 @@
 //! The papers' checked examples and the refusals, through the library.
 
 use birchjack::{
-    Bank, DutyMode, Envelope, NewEntry, Played, Player, Policy, PolyBlep, Refusal, Request,
-    Waveform, bank_of, write_bank,
+    Bank, DutyMode, Envelope, Leaving, NewEntry, Played, Player, Policy, PolyBlep, Refusal,
+    Request, Waited, Waveform, bank_of, write_bank,
 };
 
 const CLICK: Envelope = Envelope {
@@ -503,6 +503,69 @@ fn requests_and_frames() {
     assert_ne!(with, mono);
 }
 
+/// A ring in a box of so many voices, then these left, then so many frames.
+fn waited(voices: usize, left: &[Leaving], frames: usize) -> (Waited, Vec<i16>) {
+    let mut out = vec![0x55; frames];
+    let player = Player { voices, ..player() };
+    let told = player.waiting_pcm_i16(&[ring(3)], left, &mut out).unwrap();
+    (told, out)
+}
+
+fn heard(voices: usize, requests: &[Request], frames: usize) -> Vec<i16> {
+    let mut out = vec![0x55; frames];
+    let player = Player { voices, ..player() };
+    player.pcm_i16(requests, &mut out).unwrap();
+    out
+}
+
+#[test]
+fn requests_that_wait() {
+    let unknown = Request { id: 8, ..ring(9) };
+    let left = [
+        (100, ring(4)),
+        (200, ring(5)),
+        (300, unknown),
+        (200, ring(7)),
+    ]
+    .map(|(label, request)| Leaving { label, request });
+    let told = |labels: &[u16], dropped| Waited {
+        outcomes: vec![Ok(()), Ok(()), Ok(()), Err(Refusal::LabelWaiting)],
+        labels: labels.to_vec(),
+        dropped,
+    };
+    let gone = Some((Refusal::EffectNotFound, 300));
+    // where no voice is free all wait and the sound is as before; no frames try nothing
+    let all = told(&[300, 200, 100], None);
+    assert_eq!(
+        waited(1, &left, 64),
+        (all.clone(), heard(1, &[ring(3)], 64))
+    );
+    assert_eq!(waited(2, &left, 0), (all, vec![]));
+    // the free voice goes to the highest priority whose entry is there
+    let both = heard(2, &[ring(3), ring(5)], 64);
+    assert_eq!(waited(2, &left, 64), (told(&[100], gone), both));
+    let three = heard(3, &[ring(3), ring(5), ring(4)], 64);
+    assert_eq!(waited(3, &left, 64), (told(&[], gone), three));
+}
+
+#[test]
+fn up_to_32_wait() {
+    // the last again under a label that waits: 18 is looked for before 17
+    let labels = (500..533).chain([500]);
+    let left: Vec<Leaving> = labels
+        .map(|label| Leaving {
+            label,
+            request: ring(4),
+        })
+        .collect();
+    let (told, _) = waited(1, &left, 1);
+    assert_eq!(told.outcomes[..32], [Ok(()); 32]);
+    let refused = [Refusal::LineFull, Refusal::LabelWaiting].map(Err);
+    assert_eq!(told.outcomes[32..], refused);
+    assert_eq!(told.labels, (500..532).collect::<Vec<u16>>());
+    assert_eq!(told.dropped, None);
+}
+
 #[test]
 fn pans() {
     let sides = |pans: &[u8]| {
@@ -520,10 +583,29 @@ fn pans() {
     assert_eq!(sides(&[128, 0, 0, 0]), (true, true));
 }
 
+fn digits(bytes: &[u8]) -> String {
+    bytes.iter().map(|b| format!("{b:02X}")).collect()
+}
+
+/// By a script, whose box may fade: at the fade's end voice 1 falls free.
+#[test]
+fn the_next_in_line_goes_in_when_a_voice_falls_free() {
+    let (bank, envelope) = (digits(&BELL), "0002 0028 00 000A");
+    // two voices, the bank, two rings, two left under 100 and 200, four cells, who waits, a fade of 10 ms, 256 cells, who waits
+    let script = format!(
+        "70 02 00001F40 03E8 00 FF 00\n12 {bank}\n11 00001F40 0001\n13 0007 {envelope} 03\n13 0007 {envelope} 03\n\
+         74 0064 00 0007 {envelope} 04\n74 00C8 00 0007 {envelope} 05\n29 0004\n76\n14 0007 000A {envelope}\n29 0100\n76\n"
+    );
+    let (text, good) = birchjack::answers_of(script.replace(' ', "").as_bytes());
+    assert!(good);
+    let lines: Vec<&str> = str::from_utf8(&text).unwrap().lines().collect();
+    assert_eq!((lines[7], lines[10]), ("0200C80064", "010064"));
+}
+
 /// The frames are those of a script that opens its box by record 70; by record 10 they are others.
 #[test]
 fn present_rules() {
-    let bank: String = BELL.iter().map(|b| format!("{b:02X}")).collect();
+    let bank = digits(&BELL);
     let sound = |record| {
         // two voices, the bank, the ring, voice 0 more to the left, 64 stereo cells
         let script = format!(
@@ -565,6 +647,8 @@ fn players_that_are_refused() {
         let (mut cells, mut duties) = ([0x55; 3], [0x55; 3]);
         assert_eq!(player.play(&[ring(3)]), Err(refusal));
         assert_eq!(player.pcm_i16(&[ring(3)], &mut cells), Err(refusal));
+        let told = player.waiting_pcm_i16(&[ring(3)], &[], &mut cells);
+        assert_eq!(told, Err(refusal));
         assert_eq!(player.stereo_i16(&[0], &[], &mut cells), Err(refusal));
         assert_eq!(
             player.duty(1000, DutyMode::Linear, &[], &mut duties),

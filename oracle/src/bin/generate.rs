@@ -47,8 +47,8 @@ const USAGE: &str = "usage: generate random SEED COUNT  COUNT good records
        generate bad SEED COUNT     up to COUNT good records, a bad line, more lines
        generate all NAME [COUNT]   a whole set; COUNT is for db, the floats spread over all bit patterns
        generate names              the names of the sets
-       generate engine NAME SEED COUNT  a run of an engine: COUNT banks for banks and payloads, all orders of COUNT calls for orders,
-                                   else about or up to COUNT records
+       generate engine NAME SEED COUNT  a run of an engine: COUNT banks for banks and payloads, all orders of COUNT calls for orders
+                                   and waitorders, else about or up to COUNT records
        generate engine-names       the names of the runs without frames
        generate frame-names        the names of the runs with frames
        generate recorded [engine|frames]  the recorded list, with an engine's records and its frames if asked

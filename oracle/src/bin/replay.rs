@@ -1,6 +1,6 @@
 //! Reads a script on standard input and prints the Rust original's answers: the records of the replay format, our own 50 to
-//! 6A, and those of document 02 (docs/REPLAY.md): 70, 73, 7A, 82 and 86 by the original with its replacements, 79 by the original, and 80, 81 and
-//! 83 to 85, which the original has not. A bad line prints FFFF and ends the run.
+//! 6A, and those of document 02 (docs/REPLAY.md): 70, 73, 7A, 82 and 86 by the original with its replacements, 74 to 78 by a line of requests around it, 79 by the
+//! original, and 80, 81 and 83 to 85, which the original has not. A bad line prints FFFF and ends the run.
 
 #[path = "replay/answers.rs"]
 mod answers;
@@ -37,8 +37,26 @@ mod document_01 {
 
     /// Its boxes have no records of their own.
     mod added {
-        pub fn records<const N: usize>() -> &'static [super::engine::Record<N>] {
+        use super::engine::{Record, Sounder};
+
+        pub fn records<const N: usize>() -> &'static [Record<Sounder<N>>] {
             &[]
+        }
+    }
+
+    /// Nothing waits beside them.
+    mod waiting {
+        use super::rules::Engine;
+
+        #[derive(Default)]
+        pub struct Line;
+
+        impl Line {
+            pub fn is_empty(&self) -> bool {
+                true
+            }
+
+            pub fn enter<const N: usize>(&mut self, _: &mut Engine<N>, _: &[u8]) {}
         }
     }
 
@@ -58,6 +76,7 @@ mod document_02 {
     pub mod engine;
     mod frames;
     mod rules;
+    mod waiting;
 
     const PAYLOAD_NUMBERS: [(AudioError, i64); 2] = [
         (AudioError::OffsetBeyondBank, OFFSET_BEYOND),

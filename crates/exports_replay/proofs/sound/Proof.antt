@@ -6,7 +6,7 @@ use mathlib.Core.List.{List}
 use Prim.Native.Nat.{ℕ, _-_, _≤_}
 use native.Mathlib.Omega.{arith}
 use lib.IntN.{ℤ}
-use lib.ListN.{length}
+use lib.ListN.{length, take}
 use lib.Seq.{length-take-le, sets}
 use Rattle.replay_session.specs.Sessions.{ValidSession}
 use Rattle.replay_session.specs.declared.Session.{Session}
@@ -17,7 +17,7 @@ use Rattle.exports_replay.proofs.sound.Statement.{statement}
 use Rattle.exports_replay.proofs.sound.Tie as tie
 
 abbrev cells : Session → List ℕ → List ℕ → List ℤ
-cells s lent l = soundOf s l
+cells s lent l = soundOf s (take (s .lent) lent) l
 
 abbrev Inv-loop : tie.InvT-loop
 Inv-loop script out₀ lent₀ text₀ cells₀ s₀ at₀ len₀ good₀ out lent answer block s at len good =
@@ -36,7 +36,7 @@ loop-again c =
     let p = w .before .before .before .before in
     let b = p .before .before in
     let n = b .before .before .before in
-    let k = n .before .before .before in
+    let k = n .before .before .before .before in
     let t = k .before in
     let l = t .before .before .loop in
     let a = w .answer .ensures .0 in
@@ -72,16 +72,16 @@ sound-spec =
     (λ c. c .line-at .ensures .from)
     (λ c. search needs)
     (λ c. search needs)
-    (λ c κs. c .before .before .before .before .before .loop .inv .1)
+    (λ c κs. c .before .before .before .before .before .before .loop .inv .1)
     (λ c. sound-fits (c .sound .ensures))
     (λ c. sym (length-take-le _ _ (sound-fits (c .before .sound .ensures))))
     (λ c κs. tt)
     (λ c κs. tt)
-    (λ c. c .before .before .before .before .before .before .before .before .line-at .ensures .from)
+    (λ c. c .before .before .before .before .before .before .before .before .before .line-at .ensures .from)
     (λ c. search needs)
     (λ c. search needs)
-    (λ c κs. c .before .before .before .before .before .before .before .before .before .before .before .before .before .before .loop .inv .1)
-    (λ c. search needs)
+    (λ c κs. c .before .before .before .before .before .before .before .before .before .before .before .before .before .before .before .loop .inv .1)
+    (λ c. let k = c .before .before .before .before .before .before .before .before .before .before .before .before .before .before in omega (arith, k .line-at .ensures .onward, k .line-at .ensures .last))
     loop-again
     (λ c. search needs)
     returns

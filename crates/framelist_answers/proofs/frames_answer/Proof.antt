@@ -24,10 +24,10 @@ loop-again c =
     let p = l .before .before in
     let t = p .before .before .before in
     let v = t .before .before .loop .inv in
-    let same = t .tick .ensures .same in (
+    let same = t .ticked .ensures .same in (
       going-turn next dutyLine (t .before .loop-test .taken) (ap (λ (d : SounderDuty). d .sounder) same) (v .0)
           (then (shown 4 (ap (λ (d : SounderDuty). d .duty) same) (p .put .ensures .0)) (l .end-line .ensures .0)),
-      t .tick .ensures .valid,
+      t .ticked .ensures .valid,
       omega (arith, p .put .ensures .1, l .end-line .ensures .1),
     )
 

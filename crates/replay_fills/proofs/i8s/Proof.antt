@@ -12,16 +12,16 @@ use Rattle.replay_fills.proofs.Buffers.{Lent, lent-length, Back, back-f
 use Rattle.replay_fills.proofs.i8s.Statement.{statement}
 use Rattle.replay_fills.proofs.i8s.Tie as tie
 
-lent : (b : tie.After-blank-i8s) → Lent blankI8 (b .before .args .n) (b .blank-i8s .result)
-lent b = record { fits = b .before .pre .1; fresh = b .blank-i8s .ensures }
+lent : (b : tie.After-blank-i8s) → Lent blankI8 (b .before .before .args .n) (b .blank-i8s .result)
+lent b = record { fits = b .before .before .pre .1; fresh = b .blank-i8s .ensures }
 
-back : (f : tie.After-fill-i8) → let b = f .before .before in Back blankI8 (b .before .args .n) (b .blank-i8s .result) (f .fill-i8 .last .1 .1 .0)
-back f = record { lent = lent (f .before .before); kept = f .fill-i8 .kept .1 .1 .0 }
+back : (f : tie.After-fill-i8) → let b = f .before .before in Back blankI8 (b .before .before .args .n) (b .blank-i8s .result) (f .fill-i8 .last .1 .1 .1 .0)
+back f = record { lent = lent (f .before .before); kept = f .fill-i8 .kept .1 .1 .1 .0 }
 
 returns : tie.Need-returns
 returns c =
     let f = c .before .before .before .before .before in
-    shaped-shown i8Text 2 (λ x. length-hexOf 2 (ofZ w8 x)) (omega arith) toI8 (f .before .before .before .args .shape) (back f) (f .fill-i8 .ensures) (c .put-i8s .ensures)
+    shaped-shown i8Text 2 (λ x. length-hexOf 2 (ofZ w8 x)) (omega arith) toI8 (f .before .before .before .before .args .shape) (f .before .before .before .before .args .bytes .now) (back f) (f .fill-i8 .ensures) (c .put-i8s .ensures)
 
 pub i8s-spec : {M : Type 1} → statement M
 i8s-spec =

@@ -6,16 +6,16 @@ use Rattle.replay_fills.proofs.Buffers.{Lent, lent-length, Back, back-f
 use Rattle.replay_fills.proofs.u16s.Statement.{statement}
 use Rattle.replay_fills.proofs.u16s.Tie as tie
 
-lent : (b : tie.After-blank-u16s) → Lent blankU16 (b .before .args .n) (b .blank-u16s .result)
-lent b = record { fits = b .before .pre .1; fresh = b .blank-u16s .ensures }
+lent : (b : tie.After-blank-u16s) → Lent blankU16 (b .before .before .args .n) (b .blank-u16s .result)
+lent b = record { fits = b .before .before .pre .1; fresh = b .blank-u16s .ensures }
 
-back : (f : tie.After-fill-u16) → let b = f .before .before in Back blankU16 (b .before .args .n) (b .blank-u16s .result) (f .fill-u16 .last .1 .1 .0)
-back f = record { lent = lent (f .before .before); kept = f .fill-u16 .kept .1 .1 .0 }
+back : (f : tie.After-fill-u16) → let b = f .before .before in Back blankU16 (b .before .before .args .n) (b .blank-u16s .result) (f .fill-u16 .last .1 .1 .1 .0)
+back f = record { lent = lent (f .before .before); kept = f .fill-u16 .kept .1 .1 .1 .0 }
 
 returns : tie.Need-returns
 returns c =
     let f = c .before .before .before .before .before in
-    level-shown (f .before .before .before .args .level) (back f) (f .fill-u16 .ensures) (c .put-u16s .ensures)
+    level-shown (f .before .before .before .before .args .level) (f .before .before .before .before .args .bytes .now) (back f) (f .fill-u16 .ensures) (c .put-u16s .ensures)
 
 pub u16s-spec : {M : Type 1} → statement M
 u16s-spec =

@@ -10,16 +10,16 @@ use Rattle.replay_fills.proofs.Buffers.{Lent, lent-length, Back, back-f
 use Rattle.replay_fills.proofs.u8s.Statement.{statement}
 use Rattle.replay_fills.proofs.u8s.Tie as tie
 
-lent : (b : tie.After-blank-u8s) → Lent blankU8 (b .before .args .n) (b .blank-u8s .result)
-lent b = record { fits = b .before .pre .1; fresh = b .blank-u8s .ensures }
+lent : (b : tie.After-blank-u8s) → Lent blankU8 (b .before .before .args .n) (b .blank-u8s .result)
+lent b = record { fits = b .before .before .pre .1; fresh = b .blank-u8s .ensures }
 
-back : (f : tie.After-fill-u8) → let b = f .before .before in Back blankU8 (b .before .args .n) (b .blank-u8s .result) (f .fill-u8 .last .1 .1 .0)
-back f = record { lent = lent (f .before .before); kept = f .fill-u8 .kept .1 .1 .0 }
+back : (f : tie.After-fill-u8) → let b = f .before .before in Back blankU8 (b .before .before .args .n) (b .blank-u8s .result) (f .fill-u8 .last .1 .1 .1 .0)
+back f = record { lent = lent (f .before .before); kept = f .fill-u8 .kept .1 .1 .1 .0 }
 
 returns : tie.Need-returns
 returns c =
     let f = c .before .before .before .before .before in
-    shaped-shown byteText 2 (λ x. length-hexOf 2 x) (omega arith) raised (f .before .before .before .args .shape) (back f) (f .fill-u8 .ensures) (c .put-u8s .ensures)
+    shaped-shown byteText 2 (λ x. length-hexOf 2 x) (omega arith) raised (f .before .before .before .before .args .shape) (f .before .before .before .before .args .bytes .now) (back f) (f .fill-u8 .ensures) (c .put-u8s .ensures)
 
 pub u8s-spec : {M : Type 1} → statement M
 u8s-spec =

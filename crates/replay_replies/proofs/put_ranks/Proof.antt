@@ -21,8 +21,8 @@ sixteen : (e : OpenBox) → ValidBox e → length (ranksOf e) ≡ 16
 unfolding ranksOf
 sixteen e h = go (e .present)
   where
-    go : (t : Bool) → length (cond t (map (λ (k : Mark). k .rank) (e .sounder .state .marks .voices)) (replicate 16 255)) ≡ 16
-    go true = length-map (e .sounder .state .marks .voices) (λ (k : Mark). k .rank) ∙ h .sounder .inside .full
+    go : (t : Bool) → length (cond t (map (λ (k : Mark). k .rank) (e .sounder .state .present .marks .voices)) (replicate 16 255)) ≡ 16
+    go true = length-map (e .sounder .state .present .marks .voices) (λ (k : Mark). k .rank) ∙ h .sounder .inside .present .full
     go false = refl
 
 -- no more voices than ranks

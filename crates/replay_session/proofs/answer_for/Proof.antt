@@ -43,7 +43,7 @@ returns-4 c =
 
 returns-5 : tie.Need-returns-5
 returns-5 c =
-    let t = c .before .before in
+    let t = c .before .before .before .before in
     let four = t .before .before in
     let three = four .before .before in
     let two = three .before in

@@ -21,7 +21,13 @@ pub const NAMES: [(&str, Print); 3] = [
 ];
 
 /// Those of the present rules.
-pub const PRESENT_NAMES: [(&str, Print); 1] = [("payloads", payloads::print)];
+pub const PRESENT_NAMES: [(&str, Print); 2] = [
+    ("payloads", payloads::print),
+    ("otherbox", |script, seed, count| {
+        let codes = engine_codes(script);
+        enginebad::print_in_other_box(script, seed, count as u32, &codes)
+    }),
+];
 
 pub const FRAME_NAMES: [(&str, Print); 4] = [
     ("drift", drift::print),
@@ -38,11 +44,15 @@ pub const FRAME_NAMES: [(&str, Print); 4] = [
 ];
 
 /// Those of the present rules.
-pub const PRESENT_FRAME_NAMES: [(&str, Print); 2] = [
+pub const PRESENT_FRAME_NAMES: [(&str, Print); 4] = [
     ("ages", |script, seed, count| {
         plays::print(script, seed, count, Among::Ages)
     }),
+    ("waits", |script, seed, count| {
+        plays::print(script, seed, count, Among::Waits)
+    }),
     ("orders", orders::print),
+    ("waitorders", orders::print_waiting),
 ];
 
 fn engine_codes(script: &Script) -> Vec<u8> {
@@ -80,10 +90,12 @@ pub fn recorded(script: &mut Script, frames: bool) {
 /// For the recorded list: boxes of both documents.
 pub fn recorded_present(script: &mut Script) {
     banks::print(script, 1, 3);
-    plays::print(script, 4, 450, Among::Frames);
+    plays::print(script, 4, 750, Among::Frames);
     plays::print(script, 6, 450, Among::Fades);
     payloads::recorded(script);
-    plays::print(script, 1, 600, Among::Ages);
+    plays::print(script, 1, 1_000, Among::Ages);
     orders::print(script, 7, 2);
+    plays::print(script, 14, 2_000, Among::Waits);
+    orders::print_waiting(script, 7, 2);
     script.ends_with_newline = true;
 }

@@ -23,7 +23,6 @@ type Spoil = fn(&mut Draw, u8) -> Line;
 
 /// The last way is to come before an engine is open.
 const WAYS: [Spoil; 6] = [short, long, lower_case, other_byte, bad_field, good];
-const BAD_FIELD: usize = 4;
 
 /// A run of good records of the codes in `all`, then a bad one of a code in `spoilt`, then more good ones. The seed chooses
 /// code and way in turn, so that as many seeds as there are of both together have each once.
@@ -36,20 +35,37 @@ pub fn print(script: &mut Script, seed: u64, count: u32, spoilt: &[u8], all: &[u
     if before_open {
         unopened(script, draw, count);
     } else {
-        script.add(&open(draw.open_code(), 2, 8_000, 1_000, 0, 0));
-        good_ones(script, draw, count, all);
+        opened(script, draw.open_code(), draw, count, all);
+        // In a box that has the record.
+        if PRESENT_ONLY.contains(&code) {
+            script.add(&open(OPEN_PRESENT, 2, 8_000, 1_000, 0, 0));
+        }
     }
     let bad = match code {
         // These may come before an engine is open.
         0x10 | 0x12 | OPEN_PRESENT if before_open => unknown(draw),
-        // Good, in a box that has it not.
-        _ if way == BAD_FIELD && PRESENT_ONLY.contains(&code) => {
-            script.add(&open(0x10, 2, 8_000, 1_000, 0, 0));
-            good(draw, code)
-        }
         _ => WAYS[way](draw, code),
     };
-    script.add(&bad);
+    end(script, draw, count, all, &bad);
+}
+
+/// The same with a record of the present rules that would be good, in document 01's box. The seed chooses the record.
+pub fn print_in_other_box(script: &mut Script, seed: u64, count: u32, all: &[u8]) {
+    let mut draw = script.draw(seed);
+    let draw = &mut draw;
+    opened(script, OPEN_PRESENT, draw, count, all);
+    script.add(&open(0x10, 2, 8_000, 1_000, 0, 0));
+    let bad = good(draw, PRESENT_ONLY[seed as usize % PRESENT_ONLY.len()]);
+    end(script, draw, count, all, &bad);
+}
+
+fn opened(script: &mut Script, code: u8, draw: &mut Draw, count: u32, all: &[u8]) {
+    script.add(&open(code, 2, 8_000, 1_000, 0, 0));
+    good_ones(script, draw, count, all);
+}
+
+fn end(script: &mut Script, draw: &mut Draw, count: u32, all: &[u8], bad: &Line) {
+    script.add(bad);
     script.add(&open(draw.open_code(), 1, 8_000, 1_000, 0, 0));
     script.record(0x30, &[]);
     good_ones(script, draw, count, all);
@@ -103,6 +119,7 @@ fn good(draw: &mut Draw, code: u8) -> Line {
             return lend(&bytes);
         }
         0x13 => vec![id, attack, decay, sustain, release, byte],
+        0x74 => vec![id, u8(0), id, attack, decay, sustain, release, byte],
         0x14 | 0x73 => vec![id, ms, attack, decay, sustain, release],
         0x15 => vec![hz, ms, u8(draw.below(3) as u8)],
         0x16 => vec![hz, ms, u8(draw.below(4) as u8)],
@@ -110,7 +127,7 @@ fn good(draw: &mut Draw, code: u8) -> Line {
         0x18 | 0x1C => vec![byte],
         0x62 => vec![id, attack, decay, sustain, release],
         0x63 | 0x69 => vec![u8(draw.below(4) as u8)],
-        0x1A => vec![id],
+        0x1A | 0x75 => vec![id],
         0x1B => vec![u32(draw.below(100)), u16(draw.below(100) as u16)],
         0x20..=0x2A => vec![u16(draw.below(40) as u16)],
         _ => vec![],
@@ -166,6 +183,12 @@ fn bad_field(draw: &mut Draw, code: u8) -> Line {
         }
         0x15 => record(code, &[hz, ms, u8(beyond(draw, 3))]),
         0x16 => record(code, &[hz, ms, u8(beyond(draw, 4))]),
+        // The building stands behind the label.
+        0x74 => {
+            let mut line = good(draw, code);
+            line.splice(6..8, format!("{:02X}", beyond(draw, 1)).into_bytes());
+            line
+        }
         0x20..=0x2A => {
             let any = 2_049 + draw.below(63_487) as u16;
             record(code, &[u16(draw.pick(&[2_049, 65_535, any]))])

@@ -1,5 +1,7 @@
 //! Scripts that run an engine: play requests among all the other calls, with frames or without.
 
+mod waits;
+
 use crate::bank::{self, Bank};
 use crate::banks;
 use crate::draw::Draw;
@@ -22,14 +24,15 @@ enum Priorities {
     Levels,
 }
 
-/// What a run has among its calls: no frames, frames, frames and many fades, with what is left of them after every record, or frames, fades and
-/// starts of all kinds at equal priorities.
+/// What a run has among its calls: no frames, frames, frames and many fades, with what is left of them after every record, frames, fades and
+/// starts of all kinds at equal priorities, or requests that wait with all by which they go in.
 #[derive(Clone, Copy, PartialEq)]
 pub enum Among {
     Nothing,
     Frames,
     Fades,
     Ages,
+    Waits,
 }
 
 struct Plays<'a> {
@@ -131,8 +134,10 @@ impl<'a> Plays<'a> {
         if self.draw.present && self.draw.one_in(40) {
             self.open_next();
         }
-        if self.among == Among::Ages {
-            return self.aging_step();
+        match self.among {
+            Among::Ages => return self.aging_step(),
+            Among::Waits => return self.waiting_step(),
+            _ => (),
         }
         if self.among != Among::Nothing && self.draw.one_in(2) {
             self.frame();
@@ -176,6 +181,9 @@ impl<'a> Plays<'a> {
         if self.among == Among::Ages && self.draw.one_in(2) {
             self.voices = 2 + self.draw.below(4) as u8;
         }
+        if self.among == Among::Waits && !self.draw.one_in(4) {
+            self.voices = self.draw.below(5) as u8;
+        }
         self.open();
     }
 
@@ -202,12 +210,21 @@ impl<'a> Plays<'a> {
             u8(draw.pick(&[255, 255, 255, 128, gain])),
             u8(draw.one_in(3) as u8),
         ];
-        self.script.record(self.draw.open_code(), &fields);
+        let code = self.open_code();
+        self.script.record(code, &fields);
         if !self.draw.one_in(8) {
             self.new_bank();
         }
         if self.draw.one_in(2) {
             self.burst();
+        }
+    }
+
+    /// Where requests wait mostly one of the present rules: the other has none.
+    fn open_code(&mut self) -> u8 {
+        match self.among == Among::Waits && !self.draw.one_in(6) {
+            true => 0x70,
+            false => self.draw.open_code(),
         }
     }
 
@@ -243,7 +260,8 @@ impl<'a> Plays<'a> {
         let large = self.draw.below(40) as usize;
         let count = self.draw.pick(&[1, 2, 4, 6, 9, large]);
         let tail = bank::tail(&mut self.draw, count);
-        self.bank = match self.among == Among::Ages {
+        let sound = self.among == Among::Ages || self.among == Among::Waits && self.draw.one_in(2);
+        self.bank = match sound {
             true => Bank::mostly_sound(&mut self.draw, count, tail),
             false => Bank::draw(&mut self.draw, count, tail),
         };
@@ -293,6 +311,9 @@ impl<'a> Plays<'a> {
             self.search();
             self.payload();
             self.script.record(0x30, &[]);
+            if self.among == Among::Waits {
+                self.stopped_frame();
+            }
         }
         self.script.add(&lend(&self.bank.bytes));
     }
@@ -345,10 +366,16 @@ impl<'a> Plays<'a> {
         }
     }
 
-    fn play(&mut self) {
+    /// A request's id, envelope and priority.
+    fn request(&mut self) -> Vec<Field> {
         let mut fields = vec![u16(self.id())];
         fields.extend(self.envelope());
         fields.push(u8(self.priority()));
+        fields
+    }
+
+    fn play(&mut self) {
+        let fields = self.request();
         self.script.record(0x13, &fields);
     }
 

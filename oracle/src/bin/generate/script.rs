@@ -88,10 +88,10 @@ pub fn lend(bytes: &[u8]) -> Line {
 }
 
 /// The records that a box of the present rules alone has.
-pub const PRESENT_ONLY: [u8; 2] = [0x73, 0x7A];
+pub const PRESENT_ONLY: [u8; 7] = [0x73, 0x74, 0x75, 0x76, 0x77, 0x78, 0x7A];
 
 /// The whole state of a box: the dump, and what the present rules add to it.
-pub const WHOLE_STATE: &[u8] = &[0x30, 0x7A];
+pub const WHOLE_STATE: &[u8] = &[0x30, 0x7A, 0x76, 0x78];
 
 /// A script on its way out. A newline goes before every line but the first, so that the last can be left without one.
 pub struct Script {

@@ -8,6 +8,7 @@ use super::original::config::AudioConfig;
 use super::original::engine::AudioEngine;
 use super::original::state_of;
 use super::rules::{self, Engine};
+use super::waiting::Line;
 use crate::calls::{Call, MOST_LENT, Mixer};
 use crate::fields::{Answered, Bad, Fields};
 use crate::numbers::{self, Ruled, VOICE_BUSY};
@@ -16,16 +17,29 @@ use crate::numbers::{self, Ruled, VOICE_BUSY};
 /// reads the bytes lent to it.
 static HELD: [u8; MOST_LENT] = [0; MOST_LENT];
 
-type Answer<const N: usize> = fn(&mut Engine<N>, &mut Call) -> Answered;
+/// A box between two records: the original's engine, and the requests that wait beside it.
+pub struct Sounder<const N: usize> {
+    pub engine: Engine<N>,
+    pub line: Line,
+}
+
+impl<const N: usize> Sounder<N> {
+    /// The engine at the start of a frame, after the requests that go in there.
+    pub fn frame(&mut self, lent: &[u8]) -> &mut Engine<N> {
+        self.line.enter(&mut self.engine, lent);
+        &mut self.engine
+    }
+}
 
 /// Code, number of bytes after it, and what answers it.
-pub type Record<const N: usize> = (u8, usize, Answer<N>);
+pub type Record<T> = (u8, usize, fn(&mut T, &mut Call) -> Answered);
 
+/// Those of both documents.
 struct Records<const N: usize>;
 
 impl<const N: usize> Records<N> {
-    /// Those of both documents.
-    const ALL: [Record<N>; 35] = [
+    /// Those that make no frames: whatever waits, they leave it.
+    const CALLS: [Record<Engine<N>>; 19] = [
         (0x11, 6, set_bank),
         (0x13, 10, play),
         (0x14, 11, fade),
@@ -38,6 +52,16 @@ impl<const N: usize> Records<N> {
         (0x1B, 6, payload_lookup),
         (0x1C, 1, allocate),
         (0x1D, 0, audible),
+        (0x30, 0, dump),
+        (0x62, 9, plain_play),
+        (0x63, 1, voice_pan),
+        (0x64, 0, policy),
+        (0x65, 0, config),
+        (0x69, 1, voice),
+        (0x79, 0, fade_left),
+    ];
+
+    const FRAMES: [Record<Sounder<N>>; 16] = [
         (0x20, 2, frames::duty),
         (0x21, 2, frames::pcm_i8),
         (0x22, 2, frames::pcm_i16),
@@ -51,32 +75,36 @@ impl<const N: usize> Records<N> {
         (0x2A, 2, frames::panned_i8),
         (0x2B, 0, frames::one_stereo),
         (0x2C, 0, frames::one_duty),
-        (0x30, 0, dump),
-        (0x62, 9, plain_play),
-        (0x63, 1, voice_pan),
-        (0x64, 0, policy),
-        (0x65, 0, config),
         (0x66, 0, frames::one_pcm),
         (0x67, 0, frames::one_pwm),
         (0x68, 0, frames::one_wide_stereo),
-        (0x69, 1, voice),
-        (0x79, 0, fade_left),
     ];
 }
 
-impl<const N: usize> Mixer for Engine<N> {
+impl<const N: usize> Mixer for Sounder<N> {
     fn answer(&mut self, code: u8, call: &mut Call) -> Answered {
-        let mut records = Records::<N>::ALL.iter().chain(added::records());
-        let record = records.find(|record| record.0 == code);
-        let (_, length, answer) = record.ok_or(Bad)?;
-        if call.fields.0.len() != *length {
-            return Err(Bad);
-        }
-        answer(self, call)
+        answered(&Records::<N>::CALLS, &mut self.engine, code, call)
+            .or_else(|| answered(&Records::<N>::FRAMES, self, code, call))
+            .or_else(|| answered(added::records(), self, code, call))
+            .unwrap_or(Err(Bad))
     }
 }
 
-/// The engine that an open record asks for, or the refusal.
+/// What the record of that code answers, if it is one of these.
+fn answered<T>(
+    records: &[Record<T>],
+    asked: &mut T,
+    code: u8,
+    call: &mut Call,
+) -> Option<Answered> {
+    let (_, length, answer) = records.iter().find(|record| record.0 == code)?;
+    if call.fields.0.len() != *length {
+        return Some(Err(Bad));
+    }
+    Some(answer(asked, call))
+}
+
+/// The box that an open record asks for, with none waiting, or the refusal.
 pub fn open(fields: &mut Fields) -> Result<Ruled<Box<dyn Mixer>>, Bad> {
     let (voices, rate, period) = (fields.u8(), fields.u32(), fields.u16());
     let config = AudioConfig::new(rate, period, fields.duty_mode()?).master_gain_q8(fields.u8());
@@ -90,7 +118,7 @@ pub fn open(fields: &mut Fields) -> Result<Ruled<Box<dyn Mixer>>, Bad> {
                 $($count => {
                     let mut engine: Engine<$count> = AudioEngine::with_voice_count(config);
                     engine.set_stealing_policy(policy);
-                    Box::new(engine)
+                    Box::new(Sounder { engine, line: Line::default() })
                 })*
                 _ => unreachable!("more voices than are opened"),
             }

@@ -1,5 +1,6 @@
 //! Records 20 to 2C and 66 to 68: frames and buffers of them.
 
+use super::engine::Sounder;
 use super::rules::Engine;
 use crate::calls::Call;
 use crate::fields::{Answered, Bad};
@@ -24,14 +25,25 @@ macro_rules! cells {
 
 cells!(i8 i16 i32 u8 u16);
 
-/// A buffer of the length asked for, handed to `fill` and printed whole after the filled length.
-fn filled<T: Cell>(call: &mut Call, fill: impl FnOnce(&mut [T]) -> usize) -> Answered {
+/// A buffer of the length asked for, handed to `fill` and printed whole after the filled length. While a request waits it is handed over a frame's
+/// cells at a time; the rest is the original's own buffer.
+fn filled<T: Cell, const N: usize>(
+    sounder: &mut Sounder<N>,
+    call: &mut Call,
+    frame: usize,
+    fill: fn(&mut Engine<N>, &mut [T]) -> usize,
+) -> Answered {
     let cells = call.fields.u16();
     if cells > MOST_CELLS {
         return Err(Bad);
     }
     let mut buffer = vec![T::UNWRITTEN; cells as usize];
-    let length = fill(&mut buffer);
+    let mut length = 0;
+    while !sounder.line.is_empty() && length + frame <= buffer.len() {
+        let cells = &mut buffer[length..length + frame];
+        length += fill(sounder.frame(call.lent), cells);
+    }
+    length += fill(&mut sounder.engine, &mut buffer[length..]);
     call.answers.hex(length as i64, 4);
     for cell in buffer {
         call.answers.hex(cell.into(), T::DIGITS);
@@ -40,48 +52,51 @@ fn filled<T: Cell>(call: &mut Call, fill: impl FnOnce(&mut [T]) -> usize) -> Ans
     Ok(())
 }
 
+/// Each buffer's cells for a frame, and the original's call.
 macro_rules! fills {
-    ($($name:ident: $fill:ident;)*) => {$(
-        pub fn $name<const N: usize>(engine: &mut Engine<N>, call: &mut Call) -> Answered {
-            filled(call, |buffer| engine.$fill(buffer))
+    ($($name:ident: $frame:literal, $fill:ident;)*) => {$(
+        pub fn $name<const N: usize>(sounder: &mut Sounder<N>, call: &mut Call) -> Answered {
+            filled(sounder, call, $frame, Engine::<N>::$fill)
         }
     )*};
 }
 
 fills! {
-    duty: fill_duty_buffer;
-    pcm_i8: fill_pcm_i8_buffer;
-    pcm_i16: fill_pcm_i16_buffer;
-    pcm_i32: fill_pcm_i32_buffer;
-    dac_u8: fill_dac_u8_buffer;
-    dac_u12: fill_dac_u12_buffer;
-    dac_u16: fill_dac_u16_buffer;
-    stereo_i16: fill_stereo_i16_buffer;
-    stereo_i32: fill_stereo_i32_buffer;
-    panned_i16: fill_stereo_panned_i16_buffer;
-    panned_i8: fill_stereo_panned_i8_buffer;
+    duty: 1, fill_duty_buffer;
+    pcm_i8: 1, fill_pcm_i8_buffer;
+    pcm_i16: 1, fill_pcm_i16_buffer;
+    pcm_i32: 1, fill_pcm_i32_buffer;
+    dac_u8: 1, fill_dac_u8_buffer;
+    dac_u12: 1, fill_dac_u12_buffer;
+    dac_u16: 1, fill_dac_u16_buffer;
+    stereo_i16: 2, fill_stereo_i16_buffer;
+    stereo_i32: 2, fill_stereo_i32_buffer;
+    panned_i16: 2, fill_stereo_panned_i16_buffer;
+    panned_i8: 2, fill_stereo_panned_i8_buffer;
 }
 
-pub fn one_stereo<const N: usize>(engine: &mut Engine<N>, call: &mut Call) -> Answered {
-    let (left, right) = engine.tick_stereo_pcm();
+pub fn one_stereo<const N: usize>(sounder: &mut Sounder<N>, call: &mut Call) -> Answered {
+    let (left, right) = sounder.frame(call.lent).tick_stereo_pcm();
     call.answers.hex(left as i64, 2);
     call.answers.line(right as i64, 2)
 }
 
-pub fn one_duty<const N: usize>(engine: &mut Engine<N>, call: &mut Call) -> Answered {
-    call.answers.line(engine.tick() as i64, 4)
+pub fn one_duty<const N: usize>(sounder: &mut Sounder<N>, call: &mut Call) -> Answered {
+    call.answers.line(sounder.frame(call.lent).tick() as i64, 4)
 }
 
-pub fn one_pcm<const N: usize>(engine: &mut Engine<N>, call: &mut Call) -> Answered {
-    call.answers.line(engine.tick_pcm() as i64, 2)
+pub fn one_pcm<const N: usize>(sounder: &mut Sounder<N>, call: &mut Call) -> Answered {
+    call.answers
+        .line(sounder.frame(call.lent).tick_pcm() as i64, 2)
 }
 
-pub fn one_pwm<const N: usize>(engine: &mut Engine<N>, call: &mut Call) -> Answered {
-    call.answers.line(engine.tick_pwm() as i64, 4)
+pub fn one_pwm<const N: usize>(sounder: &mut Sounder<N>, call: &mut Call) -> Answered {
+    call.answers
+        .line(sounder.frame(call.lent).tick_pwm() as i64, 4)
 }
 
-pub fn one_wide_stereo<const N: usize>(engine: &mut Engine<N>, call: &mut Call) -> Answered {
-    let (left, right) = engine.tick_stereo_i16();
+pub fn one_wide_stereo<const N: usize>(sounder: &mut Sounder<N>, call: &mut Call) -> Answered {
+    let (left, right) = sounder.frame(call.lent).tick_stereo_i16();
     call.answers.hex(left as i64, 4);
     call.answers.line(right as i64, 4)
 }

@@ -16,6 +16,9 @@ pub const BAD_ENTRIES: i64 = 13;
 pub const SHORT_BUFFER: i64 = 14;
 pub const OFFSET_BEYOND: i64 = 15;
 pub const RUNS_OVER: i64 = 16;
+pub const LINE_FULL: i64 = 17;
+pub const LABEL_WAITS: i64 = 18;
+pub const NOT_WAITING: i64 = 19;
 pub const BAD_COUNT: i64 = 22;
 
 pub const MOST_VOICES: u8 = 16;

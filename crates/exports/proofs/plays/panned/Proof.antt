@@ -4,7 +4,7 @@ use native.Mathlib.Omega.{arith}
 use lib.ListN.{length}
 use Rattle.sounder.specs.Sounders.{ValidSounder}
 use Rattle.exports_parts.proofs.Panning.{Panning, panning-start, panning-turn, panning-end}
-use Rattle.exports.specs.Plays.{calls}
+use Rattle.exports_play.specs.Plays.{calls}
 use borrow.Author.Needs.{needs}
 use Rattle.exports.proofs.plays.panned.Statement.{statement}
 use Rattle.exports.proofs.plays.panned.Tie as tie

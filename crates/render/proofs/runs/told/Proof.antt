@@ -8,4 +8,4 @@ tell-requires c κs = rw (c .held .ensures) (search needs)
 
 pub told-spec : {M : Type 1} → statement M
 told-spec =
-    tie.close (tie.spec (λ c κs. search needs) tell-requires (λ c κs. search needs) (λ c. search needs))
+    tie.close (tie.spec (λ c κs. search needs) tell-requires (λ c κs. search needs) (λ c κs. search needs) (λ c κs. search needs) (λ c. search needs))

@@ -10,7 +10,7 @@ unfolding dutied
 returns c =
     let k = c .before .before in
     let t = k .before .before in
-    let s = t .before in
+    let s = t .before .before in
     made-by (sounderDuty (s .args .self)) (k .tick .ensures) (keeps-sounder (s .pre)) (rw (t .if1 .taken))
 
 returns-2 : tie.Need-returns-2
@@ -18,7 +18,7 @@ unfolding dutied
 returns-2 c =
     let k = c .before .before in
     let t = k .before .before in
-    let s = t .before in
+    let s = t .before .before in
     made-by (engineDuty (s .args .self)) (k .tick2 .ensures) (keeps-engine (s .pre)) (rw (t .if1 .left))
 
 pub tick-spec : {M : Type 1} → statement M

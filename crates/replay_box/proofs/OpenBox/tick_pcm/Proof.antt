@@ -14,7 +14,7 @@ unfolding sampled
 returns c =
     let k = c .before .before .before in
     let t = k .before .before in
-    let s = t .before in
+    let s = t .before .before in
     let pcm : SFits w8 (k .tick-pcm .result .pcm) = record { sfits = omega (arith, k .tick-pcm .ok) } in
     rw (toZ-ofZ w8 _ pcm) (made-by (sounderSample (s .args .self)) (k .tick-pcm .ensures) (keeps-sounder (s .pre)) (rw (t .if1 .taken)))
 
@@ -23,7 +23,7 @@ unfolding sampled
 returns-2 c =
     let k = c .before .before .before in
     let t = k .before .before in
-    let s = t .before in
+    let s = t .before .before in
     let pcm : SFits w8 (k .tick-pcm2 .result .pcm) = record { sfits = omega (arith, k .tick-pcm2 .ok) } in
     rw (toZ-ofZ w8 _ pcm) (made-by (engineSample (s .args .self)) (k .tick-pcm2 .ensures) (keeps-engine (s .pre)) (rw (t .if1 .left)))
 

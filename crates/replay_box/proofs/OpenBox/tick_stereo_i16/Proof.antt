@@ -14,7 +14,7 @@ unfolding wideSided
 returns c =
     let k = c .before .before .before in
     let t = k .before .before in
-    let s = t .before in
+    let s = t .before .before in
     let left : SFits w16 (k .tick-stereo-i16 .result .left) = record { sfits = omega (arith, k .tick-stereo-i16 .ok) } in
     let right : SFits w16 (k .tick-stereo-i16 .result .right) = record { sfits = omega (arith, k .tick-stereo-i16 .ok) } in
     rw (toZ-ofZ w16 _ left, toZ-ofZ w16 _ right) (made-by (sounderWideSides (s .args .self)) (k .tick-stereo-i16 .ensures) (keeps-sounder (s .pre)) (rw (t .if1 .taken)))
@@ -24,7 +24,7 @@ unfolding wideSided
 returns-2 c =
     let k = c .before .before .before in
     let t = k .before .before in
-    let s = t .before in
+    let s = t .before .before in
     let left : SFits w16 (k .tick-stereo-i162 .result .left) = record { sfits = omega (arith, k .tick-stereo-i162 .ok) } in
     let right : SFits w16 (k .tick-stereo-i162 .result .right) = record { sfits = omega (arith, k .tick-stereo-i162 .ok) } in
     rw (toZ-ofZ w16 _ left, toZ-ofZ w16 _ right) (made-by (engineWideSides (s .args .self)) (k .tick-stereo-i162 .ensures) (keeps-engine (s .pre)) (rw (t .if1 .left)))

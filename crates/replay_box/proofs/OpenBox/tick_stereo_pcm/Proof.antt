@@ -14,7 +14,7 @@ unfolding sided
 returns c =
     let k = c .before .before .before in
     let t = k .before .before in
-    let s = t .before in
+    let s = t .before .before in
     let left : SFits w8 (k .tick-stereo-pcm .result .left) = record { sfits = omega (arith, k .tick-stereo-pcm .ok) } in
     let right : SFits w8 (k .tick-stereo-pcm .result .right) = record { sfits = omega (arith, k .tick-stereo-pcm .ok) } in
     rw (toZ-ofZ w8 _ left, toZ-ofZ w8 _ right) (made-by (sounderSides (s .args .self)) (k .tick-stereo-pcm .ensures) (keeps-sounder (s .pre)) (rw (t .if1 .taken)))
@@ -24,7 +24,7 @@ unfolding sided
 returns-2 c =
     let k = c .before .before .before in
     let t = k .before .before in
-    let s = t .before in
+    let s = t .before .before in
     let left : SFits w8 (k .tick-stereo-pcm2 .result .left) = record { sfits = omega (arith, k .tick-stereo-pcm2 .ok) } in
     let right : SFits w8 (k .tick-stereo-pcm2 .result .right) = record { sfits = omega (arith, k .tick-stereo-pcm2 .ok) } in
     rw (toZ-ofZ w8 _ left, toZ-ofZ w8 _ right) (made-by (engineSides (s .args .self)) (k .tick-stereo-pcm2 .ensures) (keeps-engine (s .pre)) (rw (t .if1 .left)))

@@ -8,12 +8,12 @@ use Rattle.sounder.proofs.Sounder.crossfade_sounding_on.Tie as tie
 
 faded-requires : tie.Need-faded-requires
 faded-requires c κs =
-    let s = c .before .before .before in
+    let s = c .before .before .before .before in
     let g = c .crossfade-sounding-on .ensures in
-    (s .pre, (g .valid, faded-order true (s .pre .inside) g (on-heard _ _ _ _ _)))
+    (s .pre, (g .valid, faded-order true (s .pre .inside .present) g (on-heard _ _ _ _ _)))
 
 returns : tie.Need-returns
-returns c = made-faded true (c .before .before .before .before .args .self .state) (c .before .crossfade-sounding-on .ensures) (c .faded .ensures)
+returns c = made-faded true (c .before .before .before .before .before .args .self .state) (c .before .crossfade-sounding-on .ensures) (c .faded .ensures)
 
 pub crossfade-sounding-on-spec : {M : Type 1} → statement M
 crossfade-sounding-on-spec = tie.close (tie.spec (λ c κs. search needs) faded-requires returns)

@@ -5,7 +5,7 @@ use Rattle.sounder.proofs.Sounder.play_with_priority.Statement.{stateme
 use Rattle.sounder.proofs.Sounder.play_with_priority.Tie as tie
 
 returns : tie.Need-returns
-returns c = made-played (c .before .play-request .ensures)
+returns c = made-played (c .before .before .before .before .before .pre .inside) (c .before .before .play-request .ensures)
 
 pub play-with-priority-spec : {M : Type 1} → statement M
 play-with-priority-spec = tie.close (tie.spec (λ c κs. search needs) returns)

@@ -5,7 +5,7 @@ use Rattle.sounder.proofs.Sounder.set_bank.Statement.{statement}
 use Rattle.sounder.proofs.Sounder.set_bank.Tie as tie
 
 returns : tie.Need-returns
-returns c = made-banked _ _ _ (c .before .before .before .before .before .before .pre .inside) (c .before .before .set-bank .ensures) (c .bank-marks .ensures)
+returns c = rw (c .with .ensures) (made-banked _ _ _ (c .before .before .before .before .before .before .before .before .pre .inside) (c .before .before .before .set-bank .ensures) (c .before .bank-marks .ensures))
 
 pub set-bank-spec : {M : Type 1} → statement M
-set-bank-spec = tie.close (tie.spec (λ c κs. search needs) (λ c κs. search needs) returns)
+set-bank-spec = tie.close (tie.spec (λ c κs. search needs) (λ c κs. search needs) (λ c κs. search needs) returns)

@@ -5,7 +5,7 @@ use Rattle.sounder.proofs.Sounder.tick.Statement.{statement}
 use Rattle.sounder.proofs.Sounder.tick.Tie as tie
 
 returns : tie.Need-returns
-returns c = duty-one (c .before .before .fill-duty-buffer .ensures)
+returns c = duty-one _ (c .before .before .fill-duty-buffer .ensures)
 
 pub tick-spec : {M : Type 1} → statement M
 tick-spec =

@@ -13,8 +13,8 @@ use Rattle.sounder.proofs.Sounder.tick_pcm.Tie as tie
 returns : tie.Need-returns
 returns c =
     let f = c .before .before .before .fill-pcm-i8-buffer in
-    let narrow : SFits w8 (getD (f .last .1 .0) 0 (pos 0)) = record { sfits = omega (arith, c .t9 .given) } in
-    rw (toZ-ofZ w8 _ narrow) (mono-one (f .ensures))
+    let narrow : SFits w8 (getD (f .last .1 .1 .0) 0 (pos 0)) = record { sfits = omega (arith, c .t10 .given) } in
+    rw (toZ-ofZ w8 _ narrow) (mono-one _ (f .ensures))
 
 pub tick-pcm-spec : {M : Type 1} → statement M
 tick-pcm-spec =

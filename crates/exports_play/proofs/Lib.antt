@@ -1,0 +1,1 @@
+-- How requests played in one call are proved: each function's proof stands in its folder, over `exports_parts`.

@@ -1,6 +1,6 @@
 -- The allocation as its code goes: a free voice, else by the policy. Assumes nothing.
 use Prim.Native.Nat.{ℕ, zero, suc, ◌≤◌, ◌<◌}
-use mathlib.Core.Path.{◌≡◌, refl, ap, sym, ◌∙◌}
+use mathlib.Core.Path.{◌≡◌, refl, ap}
 use mathlib.Core.Bool.{Bool, true, false}
 use native.Mathlib.Omega.{arith}
 use lib.ListN.{length, length-take, get_elem?}
@@ -13,14 +13,13 @@ use Rattle.ranking.proofs.Places.{at_length}
 use Rattle.ranking.proofs.Rule.{free-place, lowest-place}
 use mathlib.Core.List.{List, [], ◌∷◌, map}
 use mathlib.Core.Option.{Option, none, some, or_else}
-use Rattle.ranking.specs.Rule.{first_free, first_lowest, lowest_priority, lowest_oldest, free_only}
+use Rattle.ranking.specs.Rule.{first_free, first_lowest, lowest_priority, free_only}
 use Rattle.voice.specs.Voices.{audible}
 use Rattle.voice.specs.declared.Voice.{Voice}
 use Rattle.mixer.specs.declared.Mixer.{Mixer}
 use Rattle.mixer.specs.declared.VoiceStealingPolicy.{VoiceStealingPolicy}
 use Rattle.mixer.specs.declared.VoiceStealingPolicy.TheVariants as P
 use Rattle.mixer.specs.Mixers.{voices_of}
-use Rattle.marks.specs.declared.Mark.{Mark}
 use Rattle.marks.specs.declared.Present.{Present}
 use Rattle.allocate.proofs.Keyed.{ranks-length, ranks-voices}
 use Rattle.allocate.specs.Allocation.{priority_of, place_of, chosen, allocated, with_ranks, chosen_oldest, oldest_in, allocated_oldest, allocated_in}

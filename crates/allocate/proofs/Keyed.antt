@@ -3,14 +3,14 @@ use Prim.Native.Nat.{ℕ, zero, suc, ◌+◌, ◌*◌, min, ◌≤◌, ◌<◌}
 use native.Mathlib.Omega.{arith}
 use native.Mathlib.Numerals.{add-one}
 use mathlib.Core.Path.{◌≡◌, refl, ap, sym, ◌∙◌}
-use mathlib.Core.Bool.{Bool, true, false, cond}
+use mathlib.Core.Bool.{Bool, true, false}
 use borrow.Author.Tests.{leb-true, leb-false}
 use lib.Dec.{leb}
 use mathlib.Core.List.{List, [], ◌∷◌, ◌++◌, map}
-use lib.ListN.{length, get_or, take, set, length-map}
+use lib.ListN.{length, get_or, take, set}
 use lib.Seq.{take_all, take-length, take-suc, take-suc-set}
 use Rattle.laws.specs.Lists.{All}
-use Rattle.ranking.specs.Rule.{first_lowest, lowest_priority, lowest_oldest, free_only}
+use Rattle.ranking.specs.Rule.{first_lowest, free_only}
 use Rattle.ranking.proofs.Oldest.{ranked-oldest, oldest-first}
 use Rattle.ranking.proofs.Ranked.{lowest-mapped, ranked-free}
 use Rattle.marks.specs.Marks.{Valid, ValidIn, rank_at, heard_at}

@@ -1,4 +1,6 @@
 // Which voice a request gets.
+#![tactic(auto)]
+
 ghost use Rattle.std.specs.Prelude.{◌≡◌, ◌≤◌, take};
 ghost use Rattle.ranking.specs.Rule.{first_free, first_lowest};
 ghost use Rattle.voice.specs.Voices.{audible};
@@ -12,7 +14,7 @@ use voice::Voice;
 
 pub mod keys;
 
-#[derive(Drop)]
+#[derive(Clone, Copy)]
 pub enum Allocated {
     Voice(usize),
     None,

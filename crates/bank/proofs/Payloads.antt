@@ -8,9 +8,8 @@ use native.Mathlib.Omega.{arith}
 use borrow.Author.Tests.{lt-leb, lt-ltb, le-ltb}
 use lib.Dec.{eqb, ltb}
 use lib.ListN.{length}
-use Rattle.error.specs.Told.{Told, value, refused, and_then, value_in}
+use Rattle.error.specs.Told.{value, refused, and_then, value_in}
 use Rattle.error.proofs.Told.{then-value, not-refused}
-use Rattle.bank.specs.declared.SoundBank.{SoundBank}
 use Rattle.bank.specs.declared.BankSet.{BankSet}
 use Rattle.bank.specs.declared.BankSet.TheVariants as S
 use Rattle.bank.specs.Banks.{lent_bank, Fails, nowhere, at_offset, at_length, fails_in, payload_number, payload_under, payload_given}

@@ -1,4 +1,6 @@
 // Bank lookup. A bank's rate, count and length are kept; its bytes are lent to each call.
+#![tactic(auto)]
+
 ghost use Rattle.std.specs.Prelude.{◌≡◌, [], ◌+◌, ◌≤◌, ◌<◌, length};
 ghost use Rattle.error.specs.Told.{Answered};
 ghost use Rattle.bank.specs.Entries.{little16_at, little32_at, place_of, entry_at, told_entry};
@@ -15,7 +17,7 @@ pub const ENTRY_SIZE: usize = 16;
 
 const LAST_KIND: u8 = 5;
 
-#[derive(Drop)]
+#[derive(Clone, Copy)]
 pub struct EffectEntry {
     pub id: u16,
     pub kind: EffectKind,
@@ -27,14 +29,14 @@ pub struct EffectEntry {
     pub len: u32,
 }
 
-#[derive(Drop)]
+#[derive(Clone, Copy)]
 pub enum EntryRead {
     Entry(EffectEntry),
     Refused(AudioError),
 }
 
 // What is kept of a bank; only setting it makes one.
-#[derive(Drop)]
+#[derive(Clone, Copy)]
 pub struct SoundBank {
     sample_rate_hz: u32,
     effect_count: u16,
@@ -42,19 +44,19 @@ pub struct SoundBank {
 }
 
 // The source's `Option<SoundBank>`.
-#[derive(Drop)]
+#[derive(Clone, Copy)]
 pub enum BankSet {
     None,
     Bank(SoundBank),
 }
 
-#[derive(Drop)]
+#[derive(Clone, Copy)]
 pub enum BankRead {
     Bank(SoundBank),
     Refused(AudioError),
 }
 
-#[derive(Drop)]
+#[derive(Clone, Copy)]
 pub enum PayloadRead {
     Whole,
     Refused(AudioError),

@@ -1,5 +1,7 @@
 // Writing a bank: the entries by rising id, then their payloads in the same order. What is sorted is places, not payloads: an entry's place
 // is how many entries have a lower id, and a place that is taken twice shows an id that two entries share.
+#![tactic(auto)]
+
 ghost use Rattle.std.specs.Prelude.{◌≡◌, length};
 ghost use Rattle.bank_writer.specs.Refusals.{bank_given, Wrote};
 ghost use Rattle.bank_writer.specs.Bytes.{entries_from};
@@ -17,7 +19,7 @@ pub const MAX_ENTRIES: usize = 64;
 pub const GIVEN_SIZE: usize = 13;
 
 // What is given of an entry; its payload lies among those lent.
-#[derive(Drop)]
+#[derive(Clone, Copy)]
 pub struct NewEntry {
     pub id: u16,
     pub kind: u8,
@@ -28,7 +30,7 @@ pub struct NewEntry {
     pub len: u32,
 }
 
-#[derive(Drop)]
+#[derive(Clone, Copy)]
 pub enum BankWritten {
     Length(usize),
     Refused(AudioError),

@@ -1,17 +1,17 @@
 -- The values on the way of the passes fit. Assumes nothing.
 use Prim.Native.Nat.{ℕ, suc, ◌+◌, ◌*◌, ◌≤◌, ◌<◌}
-use native.Mathlib.Nat.{mul-le-mul, mul-le-mul_right, suc-mul, div-le_self, le_trans}
+use native.Mathlib.Nat.{mul-le-mul_right, suc-mul, div-le_self, le_trans}
 use native.Mathlib.Omega.{arith}
 use mathlib.Core.Path.{◌≡◌}
-use lib.IntN.{ℤ, pos, negsuc, nat_abs, ◌+ℤ◌, ◌*ℤ◌}
-use lib.Signed.{shr_z, quot_z}
+use lib.IntN.{ℤ, pos, nat_abs, ◌+ℤ◌}
+use lib.Signed.{quot_z}
 use mir.Syntax.{w8, w16, w32}
 use mir.Val.{Fits, SFits}
 use mir.Facts.{sfits_widen}
 use mir.Val.{to_z, of_z}
 use mir.ValLaws.{to_z-of_z}
 use Rattle.block.specs.Cells.{Steady}
-use Rattle.laws.proofs.Signed.{abs≤, abs-fits, abs-quot, add≤, mag_shr, neg-fits}
+use Rattle.laws.proofs.Signed.{abs≤, abs-fits, abs-quot, add≤}
 
 -- a sum over a count
 pub record Means (s : ℤ) (n : ℕ) : Type 0 where

@@ -1,4 +1,6 @@
 // Up to 256 frames at once, voice by voice: each voice runs over the block, and passes over its cells add up, mix and level.
+#![tactic(auto)]
+
 ghost use Rattle.std.specs.Prelude.{◌≡◌, true, false, ◌+◌, ◌≤◌, ◌<◌, min, length};
 ghost use Rattle.mixer.specs.Mixers.{Valid};
 ghost use Rattle.block.specs.Blocks.{ValidInside, Block};

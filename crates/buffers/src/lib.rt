@@ -1,4 +1,6 @@
 // The buffer calls: blocks of frames, each cell scaled as the buffer's kind asks.
+#![tactic(auto)]
+
 ghost use Rattle.std.specs.Prelude.{◌≡◌};
 ghost use Rattle.block.specs.Blocks.{ValidInside};
 ghost use Rattle.output.specs.Duty.{ValidPeriod};
@@ -14,14 +16,14 @@ use tone::block_len;
 mod scales;
 
 // A state after a buffer was filled, and how many cells were written.
-#[derive(Drop)]
+#[derive(Clone, Copy)]
 pub struct Filled {
     pub state: Present,
     pub filled: usize,
 }
 
 // What a frame gives: the mono sample once, on both sides, or a sample for each side.
-#[derive(Drop)]
+#[derive(Clone, Copy)]
 pub enum Shape {
     Once,
     Doubled,
@@ -29,7 +31,7 @@ pub enum Shape {
 }
 
 // What a 16-bit cell without a sign says.
-#[derive(Drop)]
+#[derive(Clone, Copy)]
 pub enum Level {
     Duty,
     U12,

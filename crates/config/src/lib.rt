@@ -1,4 +1,6 @@
 // What an engine is opened with, and the step of a fade.
+#![tactic(auto)]
+
 ghost use Rattle.std.specs.Prelude.{◌≡◌};
 ghost use Rattle.config.specs.Config.{configured, default_duty, with_master_gain, fade_step};
 
@@ -8,7 +10,7 @@ pub const DEFAULT_SAMPLE_RATE_HZ: u32 = 16_000;
 
 pub const DEFAULT_PWM_PERIOD: u16 = 1000;
 
-#[derive(Drop)]
+#[derive(Clone, Copy)]
 pub struct AudioConfig {
     pub sample_rate_hz: u32,
     pub pwm_period: u16,

@@ -67,6 +67,7 @@ flat-every : (k q : ℕ) (l : List ℕ) (ls : List (List ℕ)) → q < k → Mem
 unfolding flat_map
 flat-every k q l (m ∷ ls) h (Memᴰ.head e) = Memᴰ.append_left {s = fronts k m} (flat_map (fronts k) ls) (rw e (fronts-every k q m h))
 flat-every k q l (m ∷ ls) h (Memᴰ.tail g) = Memᴰ.append_right (fronts k m) (flat-every k q l ls h g)
+flat-every k q l [] h x'' = elim x'' [ ]
 
 pub lists-every : (k : ℕ) (l : List ℕ) → All (λ q. q < k) l → Memᴰ l (lists k (length l))
 unfolding lists

@@ -1,4 +1,6 @@
 // How often a signal would be turned away: of all lists of requests of a length, after how many one more request is refused.
+#![tactic(auto)]
+
 ghost use Rattle.std.specs.Prelude.{◌≡◌, ◌+◌, ◌≤◌};
 ghost use Rattle.counts.specs.Counts.{uncounted, counted, told_counts, AddUp};
 ghost use Rattle.counts.specs.Rows.{longer, row_of, Small};
@@ -7,13 +9,13 @@ ghost use Rattle.error.specs.Told.{Answered};
 use error::AudioError;
 
 // The lists after which the request is refused, and those after which it is accepted.
-#[derive(Drop)]
+#[derive(Clone, Copy)]
 pub struct Counts {
     pub refused: u32,
     pub accepted: u32,
 }
 
-#[derive(Drop)]
+#[derive(Clone, Copy)]
 pub enum CountsRead {
     Counts(Counts),
     Refused(AudioError),

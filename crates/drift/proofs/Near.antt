@@ -1,6 +1,6 @@
 -- How far `round` moves a fraction: at most half a unit in the last place. Assumes nothing.
 use mathlib.Core.Path.{◌≡◌, subst}
-use Prim.Native.Nat.{ℕ, zero, suc, ◌+◌, ◌-◌, ◌*◌, ◌/◌, ◌%◌, ◌^◌, ◌≤◌, ◌<◌, compare, Ordering}
+use Prim.Native.Nat.{ℕ, zero, suc, ◌+◌, ◌*◌, ◌/◌, ◌%◌, ◌^◌, ◌≤◌, ◌<◌, compare, Ordering}
 use native.Mathlib.Nat.{div-add-mod', mod-lt, mul_comm, mul_assoc, mul_left_comm, mul-le-mul_left, mul-pos, div-lt_iff_lt-mul}
 use native.Mathlib.Omega.{arith}
 use mathlib.Core.Bool.{not}

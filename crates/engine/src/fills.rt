@@ -11,7 +11,7 @@ use buffers::{Level, Shape};
 use marks::Present;
 
 // An engine after a buffer was filled, and how many cells were written.
-#[derive(Drop)]
+#[derive(Clone, Copy)]
 pub struct EngineFilled {
     pub engine: AudioEngine,
     pub filled: usize,

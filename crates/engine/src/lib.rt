@@ -1,4 +1,6 @@
 // The box of document 01: its open calls over the mixer's parts. Its state is private, so that each engine comes from these calls.
+#![tactic(auto)]
+
 ghost use Rattle.std.specs.Prelude.{◌≡◌, length};
 ghost use Rattle.laws.specs.Made.{Made};
 ghost use Rattle.allocate.specs.Allocation.{allocated, told_place};
@@ -26,20 +28,20 @@ mod lists;
 mod opening;
 pub mod ticks;
 
-#[derive(Drop)]
+#[derive(Clone, Copy)]
 pub struct AudioEngine {
     state: Mixer,
 }
 
 // An engine, and whether the call was refused.
-#[derive(Drop)]
+#[derive(Clone, Copy)]
 pub struct EngineChanged {
     pub outcome: Outcome,
     pub engine: AudioEngine,
 }
 
 // An engine, and the voice that the request got.
-#[derive(Drop)]
+#[derive(Clone, Copy)]
 pub struct EnginePlayed {
     pub outcome: PlayOutcome,
     pub engine: AudioEngine,

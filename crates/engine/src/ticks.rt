@@ -7,28 +7,28 @@ ghost use Rattle.engine.specs.Ticks.{ValidSample, ValidDuty, ValidSides, ValidWi
 use crate::AudioEngine;
 
 // An engine after a frame, and the frame's sample.
-#[derive(Drop)]
+#[derive(Clone, Copy)]
 pub struct EngineSample {
     pub engine: AudioEngine,
     pub pcm: i8,
 }
 
 // And the sample's duty.
-#[derive(Drop)]
+#[derive(Clone, Copy)]
 pub struct EngineDuty {
     pub engine: AudioEngine,
     pub duty: u16,
 }
 
 // And both sides of a stereo frame, at 8 bits and at 16.
-#[derive(Drop)]
+#[derive(Clone, Copy)]
 pub struct EngineSides {
     pub engine: AudioEngine,
     pub left: i8,
     pub right: i8,
 }
 
-#[derive(Drop)]
+#[derive(Clone, Copy)]
 pub struct EngineWideSides {
     pub engine: AudioEngine,
     pub left: i16,

@@ -1,4 +1,6 @@
 // What happens at the start of a frame: requests that wait go in while a voice is free. A part of the box of the present rules (document 02, T-08).
+#![tactic(auto)]
+
 ghost use Rattle.std.specs.Prelude.{◌≡◌};
 ghost use Rattle.laws.specs.Made.{Made};
 ghost use Rattle.marks.specs.Marks as M;
@@ -10,7 +12,7 @@ use play::PlayOutcome;
 use waiting::{Kept, Line, Waiting};
 
 // A state of the present rules, the requests that wait, and why the latest that was dropped was refused.
-#[derive(Drop)]
+#[derive(Clone, Copy)]
 pub struct Lined {
     pub present: Present,
     pub line: Line,

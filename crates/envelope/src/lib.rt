@@ -1,4 +1,6 @@
 // The ADSR envelope in Q8: a part of every voice, and an envelope that is opened alone.
+#![tactic(auto)]
+
 ghost use Rattle.std.specs.Prelude.{◌≡◌, ◌<◌, ◌≤◌, ◌*◌, ◌/◌};
 ghost use Rattle.laws.specs.Made.{Made};
 ghost use Rattle.error.specs.Told.{Answered};
@@ -11,7 +13,7 @@ use error::AudioError;
 mod blocks;
 
 // Durations in milliseconds; 0 skips the phase.
-#[derive(Drop)]
+#[derive(Clone, Copy)]
 pub struct AdsrSpec {
     pub attack_ms: u16,
     pub decay_ms: u16,
@@ -55,7 +57,7 @@ impl AdsrSpec {
     }
 }
 
-#[derive(Drop)]
+#[derive(Clone, Copy)]
 pub enum AdsrPhase {
     Attack,
     Decay,
@@ -65,7 +67,7 @@ pub enum AdsrPhase {
 }
 
 // Where an envelope stands: phase, level 0..255, and the count within the phase.
-#[derive(Drop)]
+#[derive(Clone, Copy)]
 pub struct Adsr {
     pub spec: AdsrSpec,
     pub phase: AdsrPhase,
@@ -288,12 +290,12 @@ impl Adsr {
 }
 
 // An envelope that is opened alone. Its field is private, so that each one comes from the calls below.
-#[derive(Drop)]
+#[derive(Clone, Copy)]
 pub struct Envelope {
     adsr: Adsr,
 }
 
-#[derive(Drop)]
+#[derive(Clone, Copy)]
 pub enum Opened {
     Envelope(Envelope),
     Refused(AudioError),

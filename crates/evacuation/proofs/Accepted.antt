@@ -11,7 +11,7 @@ use lib.Dec.{eqb, ltb}
 use lib.ListN.{length, get_or, replicate, length-append}
 use Rattle.laws.specs.Runs.{given}
 use Rattle.laws.proofs.Bools.{never}
-use Rattle.evacuation.specs.Pattern.{phases, is_on, byte_of, lengths, cycle_of, samples_from, within_tenth, spelt}
+use Rattle.evacuation.specs.Pattern.{is_on, byte_of, lengths, cycle_of, samples_from, within_tenth, spelt}
 use Rattle.evacuation.specs.Reader.{Run, before, runs_of, ms_of, is_phase, in_order, whole_cycles, AllWithin, Cycles}
 use Rattle.evacuation.specs.Opened.{ValidRate}
 use Rattle.evacuation.proofs.Tenths.{within_low}

@@ -1,4 +1,6 @@
 // The evacuation pattern: three pulses and a long pause, made sample by sample at a rate, and read back from a recording.
+#![tactic(auto)]
+
 ghost use Rattle.std.specs.Prelude.{◌≡◌, ◌<◌, get_or};
 ghost use Rattle.evacuation.specs.Pattern.{phases, is_on, byte_of};
 ghost use Rattle.evacuation.specs.Places.{next_phase};
@@ -11,31 +13,31 @@ mod recording;
 mod signal;
 
 // The pattern at a rate. The field is private, so that each one comes from `open`.
-#[derive(Drop)]
+#[derive(Clone, Copy)]
 pub struct Pattern {
     sample_rate_hz: u32,
 }
 
-#[derive(Drop)]
+#[derive(Clone, Copy)]
 pub enum PatternOpened {
     Pattern(Pattern),
     Refused(AudioError),
 }
 
 // A reader of recordings at a rate; private as the pattern's.
-#[derive(Drop)]
+#[derive(Clone, Copy)]
 pub struct Reader {
     sample_rate_hz: u32,
 }
 
-#[derive(Drop)]
+#[derive(Clone, Copy)]
 pub enum ReaderOpened {
     Reader(Reader),
     Refused(AudioError),
 }
 
 // Where in a cycle a sample stands: the phase, and how many of its samples are left, this one among them.
-#[derive(Drop)]
+#[derive(Clone, Copy)]
 pub(crate) struct Place {
     phase: usize,
     left: u32,

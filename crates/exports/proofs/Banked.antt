@@ -1,6 +1,6 @@
 -- What a call that wrote a bank tells, as a number and cells. Assumes nothing.
 use Prim.Native.Nat.{ℕ}
-use mathlib.Core.Path.{◌≡◌, refl, sym, ap}
+use mathlib.Core.Path.{refl, sym, ap}
 use mathlib.Core.List.{List}
 use Rattle.error.specs.Numbers.{number_of}
 use Rattle.error.specs.Told.{Told, value, refused, number_in}

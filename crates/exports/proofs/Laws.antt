@@ -4,7 +4,7 @@ use mathlib.Core.Path.{◌≡◌, refl}
 use mathlib.Core.Bool.{Bool, true, false, cond}
 use mathlib.Core.List.{List, [], ◌∷◌}
 use native.Mathlib.Omega.{arith}
-use lib.Dec.{eqb, ltb, leb}
+use lib.Dec.{eqb, ltb}
 use lib.ListN.{length}
 use Rattle.bank.proofs.Laws.{whole-within}
 use Rattle.bank.specs.Banks.{bank_of, lent_bank, Fails, nowhere, at_offset, at_length, fails_in, payload_number, payload_under}
@@ -13,7 +13,6 @@ use Rattle.bank.specs.declared.BankSet.TheVariants as B
 use Rattle.bank.specs.declared.EffectEntry.{EffectEntry}
 use Rattle.bank.specs.declared.SoundBank.{SoundBank}
 use Rattle.error.specs.Told.{Told, value, refused, and_then, passed, number_in}
-use Rattle.error.proofs.Told.{value-is, not-refused}
 use Rattle.exports.specs.Banks.{looked_up, part_told, found_part}
 
 -- 0 is no refusal's number

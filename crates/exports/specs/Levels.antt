@@ -1,5 +1,5 @@
 -- An envelope alone: the level after each tick, the release standing between. Assumes nothing.
-use Rattle.std.specs.Prelude.{ℕ, List, [], ◌∷◌, length}
+use Rattle.std.specs.Prelude.{ℕ, List, [], ◌∷◌}
 use Rattle.envelope.specs.Alone.{opened, triggered_envelope, released_envelope, ticked_envelope}
 use Rattle.envelope.specs.declared.AdsrSpec.{AdsrSpec}
 use Rattle.envelope.specs.declared.Envelope.{Envelope}

@@ -1,4 +1,6 @@
 // What the calls for other languages have in common, whichever box they open.
+#![tactic(auto)]
+
 ghost use Rattle.std.specs.Prelude.{◌≡◌};
 ghost use Rattle.exports_parts.specs.Plays.{policy_of, mode_of, settings};
 

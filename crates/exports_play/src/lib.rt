@@ -1,5 +1,7 @@
 // A box of the present rules (document 02) that lives for one call, made ready; and the requests that it plays. A library of its own, since the compiler
 // weighs a library as a whole: where frames stand beside, which let requests in that wait, one that is played takes a quarter more instructions.
+#![tactic(auto)]
+
 ghost use Rattle.output.specs.declared.DutyMode.TheVariants as M;
 ghost use Rattle.sounder.specs.Sounders.{ValidSounderChanged};
 ghost use Rattle.exports_parts.specs.Told.{Answers};
@@ -33,9 +35,8 @@ pub fn ready(
     }
 }
 
-// Plays the requests: each one's outcome, and how many voices are audible then.
-#[unsafe(no_mangle)]
-pub extern "C" fn birchjack_play(
+// Plays the requests: each one's outcome, and how many voices are audible then. C calls it by `exports_play_c`.
+pub fn birchjack_play(
     n: usize,
     free_only: bool,
     bytes: &[u8],

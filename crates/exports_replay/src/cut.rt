@@ -3,7 +3,7 @@ ghost use Rattle.std.specs.Prelude.{◌<◌, length};
 ghost use Rattle.exports_replay.specs.Cuts.{CutAt};
 
 // The end of a line and the start of the next.
-#[derive(Drop)]
+#[derive(Clone, Copy)]
 pub(crate) struct Cut {
     pub end: usize,
     pub next: usize,

@@ -1,4 +1,6 @@
 // A whole script on a slice, to what its lines tell on a slice.
+#![tactic(auto)]
+
 ghost use Rattle.std.specs.Prelude.{◌≡◌};
 ghost use Rattle.exports_replay.specs.Runs.{answers, sounds, is_good, Poured};
 
@@ -9,7 +11,7 @@ mod hosts;
 mod put;
 
 // How much the lines tell, in bytes or cells, and whether none of them is bad.
-#[derive(Drop)]
+#[derive(Clone, Copy)]
 pub struct Ran {
     pub len: usize,
     pub good: bool,

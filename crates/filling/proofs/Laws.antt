@@ -5,8 +5,8 @@ use mathlib.Core.Path.{◌≡◌, refl, sym, ◌∙◌, ap}
 use mathlib.Core.List.{List, ◌++◌, map}
 use lib.IntN.{ℤ}
 use lib.ListN.{length, take, drop, length-take, length-drop}
-use Rattle.buffers.specs.Buffers.{Done, FillsIn}
-use Rattle.buffers.specs.Shapes.{present_frames, settled_frames, wide, frames_in, cells_in, shape_step, shape_raw, level_next, level_cell, FillsShape, FillsLevel, FillsFrom, LevelsFrom}
+use Rattle.buffers.specs.Buffers.{FillsIn}
+use Rattle.buffers.specs.Shapes.{present_frames, wide, frames_in, cells_in, shape_step, shape_raw, level_next, level_cell, FillsFrom, LevelsFrom}
 use Rattle.buffers.specs.declared.Filled.{Filled}
 use Rattle.buffers.specs.declared.Level.{Level}
 use Rattle.buffers.specs.declared.Level.TheVariants.{Duty, U12, U16}
@@ -18,7 +18,6 @@ use Rattle.entering.specs.Entering.{entered_in}
 use Rattle.entering.specs.Lined.{Valid, lined}
 use Rattle.entering.specs.declared.Lined.{Lined}
 use Rattle.laws.specs.Made.{Made}
-use Rattle.laws.specs.Runs.{after, given}
 use Rattle.marks.specs.Marks as K
 use Rattle.marks.specs.Marks.{settled}
 use Rattle.marks.specs.declared.Present.{Present}
@@ -26,7 +25,7 @@ use Rattle.spans.specs.Frames.{framed_lined, given_lined}
 use Rattle.spans.proofs.Steady.{IsFrame, is-frame}
 use Rattle.spans.proofs.Laws.{none-quiet, quiet-after, quiet-given}
 use Rattle.steps.specs.Steps.{mono, duty, stereo}
-use Rattle.filling.specs.Frames.{lined_frames, Fills, Levels}
+use Rattle.filling.specs.Frames.{Fills, Levels}
 use Rattle.filling.specs.Parts.{at_once}
 use Rattle.filling.proofs.Parts.{Kind, Parting, recount, once-most, parts-start, parts-long, parts-fit, parts-turn, parts-end}
 

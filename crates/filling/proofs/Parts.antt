@@ -5,9 +5,9 @@ use native.Mathlib.Omega.{arith}
 use borrow.Author.Tests.{eqb-true, eqb-false}
 use mathlib.Core.Path.{◌≡◌, refl, sym, ◌∙◌, ap}
 use mathlib.Core.Bool.{Bool, true, false, cond}
-use mathlib.Core.List.{List, [], ◌∷◌, ◌++◌, append-nil, append_assoc}
+use mathlib.Core.List.{List, [], ◌++◌, append-nil, append_assoc}
 use lib.Dec.{eqb}
-use lib.ListN.{length, take, drop, length-append}
+use lib.ListN.{length, take, drop}
 use lib.Seq.{sets, sets-eq, drop-drop, drop-length}
 use Rattle.block.specs.Blocks.{ValidInside}
 use Rattle.buffers.specs.Buffers.{Done, FillsIn}
@@ -20,7 +20,6 @@ use Rattle.frame.proofs.Settling.{Still}
 use Rattle.frame.proofs.Sized.{Ready}
 use Rattle.laws.specs.Made.{Made}
 use Rattle.laws.specs.Runs.{after, given}
-use Rattle.marks.specs.Marks as K
 use Rattle.marks.specs.Marks.{settled}
 use Rattle.marks.specs.declared.Present.{Present}
 use Rattle.spans.specs.Frames.{framed_lined, given_lined}

@@ -1,5 +1,7 @@
 // The buffer calls of a state with its line: requests go in at the start of a frame, and frames at whose start none can are made at once. A part of the box of
 // the present rules (document 02, T-08).
+#![tactic(auto)]
+
 ghost use Rattle.std.specs.Prelude.{◌≡◌, ◌+◌, ◌*◌, ◌≤◌};
 ghost use Rattle.buffers.specs.Buffers.{to_i8, to_i16, to_i32};
 ghost use Rattle.buffers.specs.Shapes.{wide, frames_in};
@@ -12,7 +14,7 @@ use buffers::{Level, Shape};
 use entering::Lined;
 
 // A state after a buffer was filled, and how many cells were written.
-#[derive(Drop)]
+#[derive(Clone, Copy)]
 pub struct LinedFilled {
     pub lined: Lined,
     pub filled: usize,

@@ -19,6 +19,8 @@ module _ {w : Width} where
   down a zero n h f g = rw (+ℤ_idr a) f
   down (pos x) (suc k) (suc n) h f g = let b = sub-bounds x (suc n) g in sub-fits x (suc k) (omega arith) (omega arith)
   down (negsuc x) (suc k) (suc n) h f g = record { sfits = omega arith }
+  down (pos x) (suc k) zero h f g = elim h [ ]
+  down (negsuc x) (suc k) zero h f g = elim h [ ]
 
 part≤ : (n t m : ℕ) → t ≤ m → 0 < m → n * t / m ≤ n
 part≤ n t m h p = div-le_of_le-mul m (le_trans (mul-le-mul_left n h) (le_of_eq (mul_comm n m)))
@@ -123,6 +125,7 @@ brought-up n (suc g) p h =
     let under : (g + n * suc g) / 256 < suc n = (div-lt_iff_lt-mul {k = 256} {x = g + n * suc g} {y = suc n} (omega arith)).1 (omega arith) in
     let same : suc n * suc g ≡ suc (g + n * suc g) = omega arith in
     ((g + n * suc g) / 256, rw same refl, omega arith)
+brought-up n zero p h = elim p [ ]
 
 pub silenced : (s : ℤ) → gained s 0 ≡ pos 0
 silenced (pos n) = ap pos (omega arith)

@@ -1,4 +1,6 @@
 // Phases, samples and gains; decibels in floats.rt.
+#![tactic(auto)]
+
 ghost use Rattle.std.specs.Prelude.{◌≡◌, ◌+◌, ◌-◌, ◌*◌, ◌<◌, ◌≤◌, min, true, pos};
 ghost use Rattle.std.specs.Int.{w8};
 ghost use Rattle.std.proofs.Common.{to_z, of_z};
@@ -13,7 +15,7 @@ pub use floats::{clamp_f32, db_to_q8, float_of, q8_to_db};
 pub type Phase = u32;
 
 // A source's answer to a request for a sample; the source's `Option<i8>`.
-#[derive(Drop)]
+#[derive(Clone, Copy)]
 pub enum Given {
     Sample(i8),
     None,
@@ -146,7 +148,7 @@ pub fn clamp_sample(v: i32) -> i8
 }
 
 // The gains of the two sides; a pair in the source.
-#[derive(Drop)]
+#[derive(Clone, Copy)]
 pub struct PanGains {
     pub left: u8,
     pub right: u8,

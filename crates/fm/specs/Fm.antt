@@ -1,5 +1,5 @@
 -- FM: the sine plus 128, the sample between two neighbours, and what each call makes of the oscillator. Assumes nothing.
-use Rattle.std.specs.Prelude.{ℕ, ◌+◌, ◌*◌, ◌/◌, ◌%◌, ◌^◌, Bool, true, false, cond, ℤ, pos, ◌+ℤ◌, ◌*ℤ◌, unsigned_abs}
+use Rattle.std.specs.Prelude.{ℕ, ◌+◌, ◌*◌, ◌/◌, ◌%◌, ◌^◌, true, false, cond, ℤ, pos, ◌+ℤ◌, ◌*ℤ◌, unsigned_abs}
 use Rattle.std.specs.Int.{w8}
 use Rattle.std.proofs.Common.{to_z}
 use Rattle.laws.specs.Whole.{floor_div, modulo}

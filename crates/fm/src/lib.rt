@@ -1,4 +1,6 @@
 // Two-operator FM: a modulator's sample shifts the carrier's index into the sine.
+#![tactic(auto)]
+
 ghost use Rattle.std.specs.Prelude.{◌≡◌};
 ghost use Rattle.fm.specs.Fm.{table_sine, table_sample, modulator_hz, offset_of, sample_at, fm_sample, silent_fm, started_fm, stopped_fm, stepped_fm};
 
@@ -6,7 +8,7 @@ use fixed::{Given, Phase};
 
 mod blocks;
 
-#[derive(Drop)]
+#[derive(Clone, Copy)]
 pub struct FmVoice {
     pub carrier_phase: Phase,
     pub carrier_inc: u32,
@@ -17,14 +19,14 @@ pub struct FmVoice {
 }
 
 // What a request for a sample gives, and the oscillator after it.
-#[derive(Drop)]
+#[derive(Clone, Copy)]
 pub struct FmStep {
     pub voice: FmVoice,
     pub given: Given,
 }
 
 // How many samples a block's requests gave, and the oscillator after them.
-#[derive(Drop)]
+#[derive(Clone, Copy)]
 pub struct FmFilled {
     pub voice: FmVoice,
     pub given: usize,

@@ -1,12 +1,12 @@
 -- Each definition keeps a state valid. Assumes nothing.
-use Prim.Native.Nat.{ℕ, ◌≤◌, ◌<◌}
+use Prim.Native.Nat.{ℕ, ◌≤◌}
 use native.Mathlib.Omega.{arith}
 use mathlib.Core.Path.{◌≡◌, refl}
 use mathlib.Core.Bool.{Bool, true, false, cond}
 use lib.Dec.{eqb}
-use lib.ListN.{length, set, length-set}
+use lib.ListN.{set, length-set}
 use lib.Seq.{drop-set-lt}
-use Rattle.laws.specs.Lists.{All, map_first}
+use Rattle.laws.specs.Lists.{map_first}
 use Rattle.laws.proofs.Bools.{never}
 use Rattle.laws.proofs.Lists.{all_set, all-map_first, length-map_first, drop-map_first}
 use Rattle.mixer.specs.Mixers.{Valid, with_voices}

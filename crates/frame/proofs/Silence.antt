@@ -1,20 +1,19 @@
 -- What is silent stays silent. Assumes nothing.
-use Prim.Native.Nat.{ℕ, suc, ◌+◌, ◌*◌, ◌/◌, ◌≤◌, ◌<◌}
+use Prim.Native.Nat.{ℕ, suc, ◌≤◌, ◌<◌}
 use native.Mathlib.Nat.{zero-mul}
 use native.Mathlib.Omega.{arith}
-use mathlib.Core.Path.{◌≡◌, refl, sym, ◌∙◌}
-use mathlib.Core.Bool.{Bool, true, false, cond, ◌||◌}
-use mathlib.Core.List.{List, [], ◌∷◌, map}
+use mathlib.Core.Path.{◌≡◌, refl}
+use mathlib.Core.Bool.{Bool, true, false, cond}
+use mathlib.Core.List.{List, [], ◌∷◌}
 use lib.Dec.{eqb}
-use lib.IntN.{ℤ, pos, ◌+ℤ◌}
-use lib.ListN.{length, get_or, take, set}
+use lib.IntN.{ℤ, pos}
+use lib.ListN.{length, take, set}
 use lib.Seq.{take-set-lt, get_or-take, length-take-le}
-use Rattle.fixed.specs.declared.Given.{Given}
 use Rattle.fixed.specs.declared.Given.TheVariants as G
-use Rattle.laws.specs.Lists.{All, map_first}
+use Rattle.laws.specs.Lists.{All}
 use Rattle.frame.specs.Places.{map_at}
 use Rattle.laws.proofs.Lists.{all_set, all-get, all_map, all-imp, all_take, take-map_first, map_first-same}
-use Rattle.mixer.specs.Mixers.{Valid, voices_of, with_voices}
+use Rattle.mixer.specs.Mixers.{Valid, voices_of}
 use Rattle.mixer.specs.declared.Mixer.{Mixer}
 use Rattle.voice.specs.Voices.{silent_voice, stopped_voice, audible, ticked_voice, stepped_voice, sample_by, pair_by}
 use Rattle.voice.specs.declared.source.VoiceSource.TheVariants as S
@@ -27,7 +26,7 @@ use Rattle.voice.proofs.Laws.{ticked-silent, stepped-idle, sample-idle, pair-idl
 use Rattle.frame.specs.Fades.{taken_over, voice_at, fade_ended_with, envelope_after, fade_ended_by, fade_at, next_t, advanced_by, marks_advanced}
 use Rattle.marks.specs.Marks.{rule_at}
 use Rattle.marks.specs.declared.Marks.{Marks}
-use Rattle.frame.specs.Frames.{enveloped, sampled, leveled, total, given_count, averaged, crossed, samples_of, sampled_count, mono_mix, mono_frame, mono_frame_by, left_of, right_of, side_total, stereo_frame, stereo_frame_by}
+use Rattle.frame.specs.Frames.{enveloped, sampled, leveled, total, given_count, averaged, crossed, samples_of, sampled_count, mono_mix, mono_frame_by, left_of, right_of, side_total, stereo_frame_by}
 
 abbrev Inaudible : Voice → Type 0
 Inaudible v = audible v ≡ false

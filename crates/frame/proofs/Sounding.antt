@@ -1,29 +1,26 @@
 -- After the end of a fade that keeps sounding, voice 0 runs on as voice 1 would have by itself. Assumes nothing.
-use Prim.Native.Nat.{ℕ, ◌≤◌, ◌<◌}
+use Prim.Native.Nat.{ℕ, ◌≤◌}
 use native.Mathlib.Omega.{arith}
 use mathlib.Core.Path.{◌≡◌, refl, ap, sym, ◌∙◌}
 use mathlib.Core.Bool.{Bool, true, false, cond}
-use mathlib.Core.List.{List, [], ◌∷◌, map}
+use mathlib.Core.List.{List, [], ◌∷◌}
 use borrow.Author.Tests.{lt-ltb, eq-eqb}
-use lib.Dec.{ltb, eqb}
+use lib.Dec.{eqb}
 use lib.ListN.{length, get_or, set, length-set}
 use Rattle.envelope.specs.Adsrs as A
 use Rattle.envelope.specs.declared.Adsr.{Adsr}
-use Rattle.fixed.specs.declared.Given.{Given}
 use Rattle.laws.proofs.Bools.{never}
-use Rattle.laws.proofs.Lists.{get_d_any}
-use Rattle.marks.specs.Marks.{beside, nothing, rule_at, heard_at, settled}
+use Rattle.marks.specs.Marks.{beside, nothing, rule_at, settled}
 use Rattle.marks.specs.declared.Mark.{Mark}
 use Rattle.marks.specs.declared.Marks.{Marks}
 use Rattle.marks.specs.declared.Present.{Present}
 use Rattle.mixer.specs.declared.Mixer.{Mixer}
 use Rattle.voice.specs.Rests as R
 use Rattle.voice.specs.Voices.{silent_voice, stopped_voice, audible, sounding, ticked_voice, stepped_voice, sample_by, pair_by}
-use Rattle.voice.specs.declared.StereoGiven.{StereoGiven}
 use Rattle.voice.specs.declared.Voice.{Voice}
 use Rattle.voice.specs.declared.source.VoiceSource.TheVariants as S
 use Rattle.voice.proofs.Laws.{ticked-silent, stepped-idle}
-use Rattle.frame.specs.Fades.{taken_over, voice_at, fade_ended_with, envelope_after, fade_ended_by, next_t, advanced_by, marks_ended, marks_advanced}
+use Rattle.frame.specs.Fades.{taken_over, voice_at, fade_ended_with, envelope_after, next_t, advanced_by, marks_advanced}
 use Rattle.frame.specs.Frames.{enveloped, sampled, sampled_count, mono_frame_by, duty_frame_by, stereo_frame_by}
 use Rattle.frame.specs.Presents.{mono_next, duty_next, stereo_next}
 use Rattle.frame.specs.Sounding.{advanced_state, gives_at, gives_pair}

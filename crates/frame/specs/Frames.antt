@@ -1,5 +1,5 @@
 -- One mono frame, its duty, and one stereo frame. Assumes nothing.
-use Rattle.std.specs.Prelude.{ℕ, suc, false, cond, List, [], ◌∷◌, ltb, ℤ, pos, ◌+ℤ◌, take}
+use Rattle.std.specs.Prelude.{ℕ, suc, false, cond, List, [], ◌∷◌, ltb, ℤ, pos, ◌+ℤ◌}
 use Rattle.fixed.specs.Fixed.{toward, gained_by, limited}
 use Rattle.fixed.specs.declared.Given.{Given}
 use Rattle.fixed.specs.declared.Given.TheVariants as G

@@ -1,4 +1,6 @@
 // What one frame of a mixer's state gives, and how many a fade has left. The code that makes frames is the block core's.
+#![tactic(auto)]
+
 ghost use Rattle.std.specs.Prelude.{◌≡◌};
 ghost use Rattle.mixer.specs.Mixers.{Valid};
 ghost use Rattle.frame.specs.Lasting.{frames_left};
@@ -6,20 +8,20 @@ ghost use Rattle.frame.specs.Lasting.{frames_left};
 use mixer::Mixer;
 
 // A state after a mono frame, and the sample.
-#[derive(Drop)]
+#[derive(Clone, Copy)]
 pub struct MonoFrame {
     pub mixer: Mixer,
     pub pcm: i8,
 }
 
 // A state after a frame, and the sample's duty.
-#[derive(Drop)]
+#[derive(Clone, Copy)]
 pub struct DutyFrame {
     pub mixer: Mixer,
     pub duty: u16,
 }
 
-#[derive(Drop)]
+#[derive(Clone, Copy)]
 pub struct StereoFrame {
     pub mixer: Mixer,
     pub left: i8,

@@ -1,12 +1,14 @@
 // Reads a list of lines on standard input and writes the answers to standard output. What a line does and what is answered to it
 // is the library's.
+#![tactic(auto)]
+
 ghost use Rattle.sounder.specs.Sounders.{ValidSounder};
 
-use libc::{STDIN_FILENO, STDOUT_FILENO};
 use sounder::Sounder;
+use std::io::Read;
 
 // How much of a line is kept, whether the run goes on, and the box.
-#[derive(Drop)]
+#[derive(Clone, Copy)]
 struct Run {
     line: usize,
     more: bool,
@@ -14,15 +16,15 @@ struct Run {
 }
 
 // Writes the first n bytes and says whether that went well.
-fn write_front(s: &[u8], n: usize) -> bool {
+fn write_front(rt: &impl Print, s: &[u8], n: usize) -> bool {
     if n <= s.len() {
-        io::write_all(STDOUT_FILENO, &s[..n])
+        rt.write_all(&s[..n]).is_ok()
     } else {
         false
     }
 }
 
-fn answered(r: Run, line: &[u8], n: usize, out: &mut [u8; 262144]) -> Run
+fn answered(rt: &impl Print, r: Run, line: &[u8], n: usize, out: &mut [u8; 262144]) -> Run
     requires { ValidSounder r.sounder }
     ensures { ValidSounder result.sounder }
 {
@@ -31,7 +33,7 @@ fn answered(r: Run, line: &[u8], n: usize, out: &mut [u8; 262144]) -> Run
     }
     let before = r.sounder;
     let a = framelist_answers::answer(&line[..n], before, out);
-    let is_written = write_front(&*out, a.len);
+    let is_written = write_front(rt, &*out, a.len);
     let sounder = a.sounder;
     Run {
         line: 0,
@@ -41,7 +43,7 @@ fn answered(r: Run, line: &[u8], n: usize, out: &mut [u8; 262144]) -> Run
 }
 
 // The lines that end in the chunk, and what it begins of the next. A line that fills its 17 bytes is bad wherever it ends.
-fn feed(r: Run, chunk: &[u8], line: &mut [u8; 17], out: &mut [u8; 262144]) -> Run
+fn feed(rt: &impl Print, r: Run, chunk: &[u8], line: &mut [u8; 17], out: &mut [u8; 262144]) -> Run
     requires { ValidSounder r.sounder }
     ensures { ValidSounder result.sounder }
 {
@@ -51,7 +53,7 @@ fn feed(r: Run, chunk: &[u8], line: &mut [u8; 17], out: &mut [u8; 262144]) -> Ru
         let f = input_lines::fill(line, t.line, chunk, i);
         i = f.next;
         if f.ended {
-            t = answered(t, &*line, f.line, out);
+            t = answered(rt, t, &*line, f.line, out);
         } else {
             t = Run { line: f.line, ..t };
         }
@@ -59,27 +61,34 @@ fn feed(r: Run, chunk: &[u8], line: &mut [u8; 17], out: &mut [u8; 262144]) -> Ru
     t
 }
 
-// Reads once and answers the lines that ended. At the end of the input a last line may lack its newline.
-fn read_some(r: Run, line: &mut [u8; 17], out: &mut [u8; 262144]) -> Run
+// Reads once and answers the lines that ended. At the end of the input a last line may lack its newline. A read that fails ends the
+// input.
+fn read_some(
+    rt: &impl Print,
+    input: &mut impl Read,
+    r: Run,
+    line: &mut [u8; 17],
+    out: &mut [u8; 262144],
+) -> Run
     requires { ValidSounder r.sounder }
     ensures { ValidSounder result.sounder }
 {
-    let mut chunk = io::large_buffer();
-    let got = libc::read(STDIN_FILENO, &mut chunk);
+    let mut chunk = [0u8; 65536];
+    let got = input.read(&mut chunk).unwrap_or(0);
     if got > 0 {
-        let n = io::count(got, &chunk);
-        return feed(r, &chunk[..n], line, out);
+        return feed(rt, r, &chunk[..got], line, out);
     }
     let n = r.line;
     if n == 0 {
         return Run { more: false, ..r };
     }
-    let t = answered(r, &*line, n, out);
+    let t = answered(rt, r, &*line, n, out);
     Run { more: false, ..t }
 }
 
 // A proved loop has to end, and nothing says that the input does: the turns are counted down from a number that no run uses up.
-fn main() {
+fn main(rt: HostRuntime) {
+    let mut input = rt.stdin();
     let mut line = [0u8; 17];
     let mut out = [0u8; 262144];
     let mut r = Run {
@@ -89,7 +98,7 @@ fn main() {
     };
     let mut turns = u64::MAX;
     while turns > 0 && r.more {
-        r = read_some(r, &mut line, &mut out);
+        r = read_some(&rt, &mut input, r, &mut line, &mut out);
         turns -= 1;
     }
 }

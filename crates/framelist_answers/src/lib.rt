@@ -1,4 +1,6 @@
 // A list of lines, each a tone or a number of frames: one box of the present rules, and what is answered to each line.
+#![tactic(auto)]
+
 ghost use Rattle.std.specs.Prelude.{◌≡◌};
 ghost use Rattle.laws.specs.Made.{Made};
 ghost use Rattle.sounder.specs.Frames.{ValidDuty};
@@ -14,7 +16,7 @@ use sounder::Sounder;
 use sounder::ticks::SounderDuty;
 
 // How many bytes the answer has, whether the run goes on, and the box after the line.
-#[derive(Drop)]
+#[derive(Clone, Copy)]
 pub struct Answered {
     pub len: usize,
     pub more: bool,

@@ -1,12 +1,12 @@
 -- Every call and frame keeps the order of the starts, so the box is what its history says. Assumes nothing.
 use Prim.Native.Nat.{ℕ, zero, suc, ◌≤◌, ◌<◌}
 use native.Mathlib.Omega.{arith}
-use mathlib.Core.Path.{◌≡◌, refl, ap, sym, ◌∙◌}
+use mathlib.Core.Path.{◌≡◌, refl, sym, ◌∙◌}
 use mathlib.Core.Bool.{Bool, true, false, cond}
 use mathlib.Core.List.{List, [], ◌∷◌, map}
 use borrow.Author.Tests.{ltb-true, ltb-false, eqb-false}
 use lib.Dec.{ltb, eqb}
-use lib.ListN.{length, get_or, set, replicate, length-set}
+use lib.ListN.{get_or, set, replicate, length-set}
 use lib.Seq.{get_or-set_other, drop-set-lt}
 use Rattle.allocate.specs.Allocation.{allocated_in}
 use Rattle.allocate.proofs.Choice.{given_below}
@@ -55,11 +55,11 @@ use Rattle.waiting.proofs.Lists.{by-test}
 use Rattle.sounder.specs.Calls.{opened, fade_marks, bank_marks}
 use Rattle.sounder.specs.Steps.{frame_step, Lent, framed, Call, by01, fade_on, leave, withdraw, called01, called, box}
 use Rattle.sounder.specs.declared.Sounder.{Sounder}
-use Rattle.sounder.proofs.Heard.{Others, HeardBy, toned-others, bleped-others, faded-heard, on-heard}
+use Rattle.sounder.proofs.Heard.{HeardBy, toned-others, bleped-others, faded-heard, on-heard}
 use Rattle.sounder.proofs.Settled.{silent, opened-silent, all-stopped}
 use Rattle.sounder.proofs.Valid.{panned-alike}
 use Rattle.history.specs.Histories.{History, unstarted, started_now, handed_now, faded_now, called_now01, called_now, entered_now, advanced_now, framed_now, history_of, ByHistory}
-use Rattle.history.proofs.Kept.{Kept, Rest, Past, by-history, settled-kept, mono-kept, duty-kept, stereo-kept, begun_kept, begun-by-kept, changed-kept, silent-kept}
+use Rattle.history.proofs.Kept.{Kept, Rest, by-history, settled-kept, mono-kept, duty-kept, stereo-kept, begun_kept, begun-by-kept, changed-kept, silent-kept}
 
 -- ---- play
 stored-others : (vs : List Voice) (i : ℕ) (v : Voice) (j : ℕ) → heard_at (map audible (set vs i v)) j ≡ true → (j ≡ i → ⊥) → heard_at (map audible vs) j ≡ true

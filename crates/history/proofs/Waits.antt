@@ -1,9 +1,9 @@
 -- Who waits, after any calls and frames from an opening on. Assumes nothing.
-use Prim.Native.Nat.{ℕ, ◌-◌, ◌+◌, ◌≤◌}
+use Prim.Native.Nat.{ℕ, ◌-◌, ◌≤◌}
 use native.Mathlib.Omega.{arith}
 use mathlib.Core.Path.{◌≡◌, refl, ap, sym, ◌∙◌}
 use mathlib.Core.List.{List, [], ◌∷◌, ◌++◌, map}
-use lib.ListN.{length, take, length-append}
+use lib.ListN.{length, length-append}
 use lib.Seq.{take-append_seam}
 use Rattle.config.specs.declared.AudioConfig.{AudioConfig}
 use Rattle.entering.specs.Entering.{entered_in}
@@ -15,7 +15,6 @@ use Rattle.mixer.specs.declared.VoiceStealingPolicy.{VoiceStealingPolicy}
 use Rattle.marks.specs.declared.Present.{Present}
 use Rattle.requests.specs.Players as R
 use Rattle.requests.specs.Presents.{played_present}
-use Rattle.start.specs.declared.Request.{Request}
 use Rattle.steps.specs.Steps as S01
 use Rattle.steps.specs.Steps.{Frame, mono, duty, stereo}
 use Rattle.sounder.specs.Calls.{opened}

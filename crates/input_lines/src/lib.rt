@@ -1,9 +1,11 @@
 // Input that comes in chunks, cut into lines.
+#![tactic(auto)]
+
 ghost use Rattle.std.specs.Prelude.{drop};
 ghost use Rattle.input_lines.specs.Lines.{lined, Fills};
 
 // How much of a line is kept, the place in the chunk after what was read, and whether the line ended.
-#[derive(Drop)]
+#[derive(Clone, Copy)]
 pub struct Filled {
     pub line: usize,
     pub next: usize,

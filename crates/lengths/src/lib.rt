@@ -1,30 +1,32 @@
 // Lengths in samples with what is left over, so that many in a row do not drift.
+#![tactic(auto)]
+
 ghost use Rattle.std.specs.Prelude.{◌≡◌, ◌+◌, ◌*◌, ◌≤◌, ◌<◌, min};
 ghost use Rattle.lengths.specs.Lengths.{at_rate, carrying, length_of, told_length, total_of, told_total};
 
 use error::AudioError;
 
 // Whole samples, and the remainder in thousandths of one.
-#[derive(Drop)]
+#[derive(Clone, Copy)]
 pub struct Length {
     pub samples: u32,
     pub remainder: u16,
 }
 
-#[derive(Drop)]
+#[derive(Clone, Copy)]
 pub enum LengthRead {
     Length(Length),
     Refused(AudioError),
 }
 
 // The same of a whole list.
-#[derive(Drop)]
+#[derive(Clone, Copy)]
 pub struct Total {
     pub samples: u64,
     pub remainder: u16,
 }
 
-#[derive(Drop)]
+#[derive(Clone, Copy)]
 pub enum TotalRead {
     Total(Total),
     Refused(AudioError),

@@ -1,16 +1,15 @@
 -- A voice started in a valid state, and voices that fall silent. Assumes nothing.
 use Prim.Native.Nat.{ℕ, zero, suc, ◌<◌}
-use native.Mathlib.Omega.{arith}
 use mathlib.Core.Path.{◌≡◌, refl, ap, sym, ◌∙◌}
-use mathlib.Core.Bool.{Bool, true, false}
+use mathlib.Core.Bool.{true, false}
 use mathlib.Core.List.{List, [], ◌∷◌, map}
-use lib.ListN.{length, get_or, set, length-set}
+use lib.ListN.{set}
 use lib.Seq.{get_or-set_other}
 use Rattle.mixer.specs.Mixers as M
 use Rattle.mixer.specs.declared.Mixer.{Mixer}
 use Rattle.voice.specs.Voices.{audible}
 use Rattle.voice.specs.declared.Voice.{Voice}
-use Rattle.marks.specs.Marks.{Valid, Ordered, beside, started_mark, with_marks, marked_at, heard_of, heard_at, settled, settled_marks}
+use Rattle.marks.specs.Marks.{Valid, Ordered, beside, started_mark, with_marks, marked_at, heard_of, heard_at, settled}
 use Rattle.marks.specs.Steps.{renewed}
 use Rattle.marks.specs.declared.Mark.{Mark}
 use Rattle.marks.specs.declared.Present.{Present}

@@ -1,5 +1,7 @@
 // The parts of a box: its state and each step on it. Fields are public, for our own crates; a box that is open to others keeps
 // such a state in a private field.
+#![tactic(auto)]
+
 ghost use Rattle.std.specs.Prelude.{◌≡◌};
 ghost use Rattle.laws.specs.Made.{Made};
 ghost use Rattle.error.specs.Numbers.{number_of};
@@ -12,7 +14,7 @@ use output::{DutyMode, PwmMapper};
 use voice::Voice;
 
 // How a voice is found for a request when all are audible.
-#[derive(Drop)]
+#[derive(Clone, Copy)]
 pub enum VoiceStealingPolicy {
     LowestPriorityOldest,
     FreeChannelOnly,
@@ -27,7 +29,7 @@ impl VoiceStealingPolicy {
     }
 }
 
-#[derive(Drop)]
+#[derive(Clone, Copy)]
 pub struct Mixer {
     pub n: usize,
     pub voices: [Voice; 16],
@@ -40,28 +42,28 @@ pub struct Mixer {
     pub stealing_policy: VoiceStealingPolicy,
 }
 
-#[derive(Drop)]
+#[derive(Clone, Copy)]
 pub enum Outcome {
     Done,
     Refused(AudioError),
 }
 
 // What a call that may be refused gives back.
-#[derive(Drop)]
+#[derive(Clone, Copy)]
 pub struct Changed {
     pub outcome: Outcome,
     pub mixer: Mixer,
 }
 
 // The source's `Option<&Voice>`.
-#[derive(Drop)]
+#[derive(Clone, Copy)]
 pub enum VoiceRead {
     Voice(Voice),
     None,
 }
 
 // The source's `Option<u8>` of a pan.
-#[derive(Drop)]
+#[derive(Clone, Copy)]
 pub enum PanRead {
     Pan(u8),
     None,

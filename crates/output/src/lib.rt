@@ -1,4 +1,6 @@
 // From a sample to what the output pin takes: limiter, shapers, duty, and the scales of other converters.
+#![tactic(auto)]
+
 ghost use Rattle.std.specs.Prelude.{◌≡◌, ◌*◌, ◌/◌, ◌≤◌, pos, nat_abs, ◌+ℤ◌, ◌-ℤ◌, ◌*ℤ◌};
 ghost use Rattle.std.specs.Int.Signed.{mag};
 ghost use Rattle.laws.specs.Whole.{held_to, wrap32};
@@ -11,7 +13,7 @@ ghost use Rattle.output.specs.Levels.{limited_bus, told_limit, raised};
 use error::AudioError;
 
 // How a sample becomes a compare value.
-#[derive(Drop)]
+#[derive(Clone, Copy)]
 pub enum DutyMode {
     Linear,
     SigmaDelta,
@@ -42,13 +44,13 @@ fn wrapping_add_i32(x: i32, y: i32) -> i32
 }
 
 // First-order shaper. Its sum may be any i32.
-#[derive(Drop)]
+#[derive(Clone, Copy)]
 pub struct SigmaDelta {
     pub integrator: i32,
 }
 
 // A shaper after a sample, and the sample that it gives.
-#[derive(Drop)]
+#[derive(Clone, Copy)]
 pub struct Shaped {
     pub shaper: SigmaDelta,
     pub pcm: i8,
@@ -88,20 +90,20 @@ impl SigmaDelta {
 }
 
 // Second-order shaper. Its errors come from these calls alone, which keep them within −32,767..32,767.
-#[derive(Drop)]
+#[derive(Clone, Copy)]
 pub struct SigmaDelta2ndOrder {
     e1: i32,
     e2: i32,
 }
 
-#[derive(Drop)]
+#[derive(Clone, Copy)]
 pub struct Shaped2ndOrder {
     pub shaper: SigmaDelta2ndOrder,
     pub pcm: i8,
 }
 
 // One stage: the level that it gives, and the error that is left.
-#[derive(Drop)]
+#[derive(Clone, Copy)]
 struct Staged {
     y: i32,
     e: i32,
@@ -178,12 +180,12 @@ impl SigmaDelta2ndOrder {
 }
 
 // Counts of a PWM period, at least 2: below, there is no duty from 1 to the period less 1.
-#[derive(Drop)]
+#[derive(Clone, Copy)]
 pub struct Period {
     counts: u16,
 }
 
-#[derive(Drop)]
+#[derive(Clone, Copy)]
 pub enum PeriodRead {
     Accepted(Period),
     Refused(AudioError),
@@ -230,14 +232,14 @@ pub fn pcm_to_duty(pcm: i8, period: Period) -> u16
 }
 
 // The whole output path: the mode's shaper, then duty.
-#[derive(Drop)]
+#[derive(Clone, Copy)]
 pub struct PwmMapper {
     pub mode: DutyMode,
     pub sigma_delta: SigmaDelta,
     pub sigma_delta_2nd: SigmaDelta2ndOrder,
 }
 
-#[derive(Drop)]
+#[derive(Clone, Copy)]
 pub struct Mapped {
     pub mapper: PwmMapper,
     pub duty: u16,
@@ -302,7 +304,7 @@ impl PwmMapper {
     }
 }
 
-#[derive(Drop)]
+#[derive(Clone, Copy)]
 pub enum Limited {
     Sample(i8),
     Refused(AudioError),

@@ -1,4 +1,6 @@
 // The calls that start a voice: play requests, tones, fades.
+#![tactic(auto)]
+
 ghost use Rattle.std.specs.Prelude.{◌≡◌};
 ghost use Rattle.laws.specs.Made.{Made};
 ghost use Rattle.voice.specs.Voices as S;
@@ -17,13 +19,13 @@ pub mod fades;
 pub mod places;
 
 // The voice that a request got, or why it got none.
-#[derive(Drop)]
+#[derive(Clone, Copy)]
 pub enum PlayOutcome {
     Voice(usize),
     Refused(AudioError),
 }
 
-#[derive(Drop)]
+#[derive(Clone, Copy)]
 pub struct Played {
     pub outcome: PlayOutcome,
     pub mixer: Mixer,

@@ -13,7 +13,7 @@ use mixer::VoiceStealingPolicy;
 use start::{EntryStart, Request};
 use voice::Voice;
 
-#[derive(Drop)]
+#[derive(Clone, Copy)]
 pub enum Placed {
     Voice(usize, Voice),
     Refused(AudioError),

@@ -11,7 +11,7 @@ use super::{
 };
 
 // The voice after a block's requests, and how many of them, the first ones, gave a sample.
-#[derive(Drop)]
+#[derive(Clone, Copy)]
 pub struct BlepFilled {
     pub voice: PolyBlepVoice,
     pub given: usize,

@@ -1,6 +1,8 @@
 // Band-limited oscillator: a binary32 phase, four waveforms with their edges rounded off, every operation in the source's
 // order. corrections.rt has the corrections and the sine, waves.rt the waveforms, cast.rt the cut to eight bits,
 // blocks.rt a block of samples at once, restores.rt an oscillator and a voice from their fields.
+#![tactic(auto)]
+
 ghost use Rattle.std.specs.Prelude.{◌≡◌, max};
 ghost use Rattle.laws.specs.Made.{Made};
 ghost use Rattle.polyblep.specs.Oscillators.{Valid, Stepped, ValidVoice, FloatStepped, VoiceStepped, step_of, default_waveform, default_oscillator, new_oscillator, at_frequency, at_rate, with_waveform, at_start, advance, silent_voice, started_voice, stopped_voice, carrier_of};
@@ -17,7 +19,7 @@ pub use blocks::BlepFilled;
 pub use corrections::{poly_blamp, poly_blep};
 pub use restores::{Restored, RestoredVoice};
 
-#[derive(Drop)]
+#[derive(Clone, Copy)]
 pub enum PolyBlepWaveform {
     Sine,
     Sawtooth,
@@ -35,7 +37,7 @@ impl PolyBlepWaveform {
 }
 
 // Private fields: an oscillator comes from the calls below, which keep its phase and step in their ranges.
-#[derive(Drop)]
+#[derive(Clone, Copy)]
 pub struct PolyBlepOscillator {
     phase: f32,
     phase_inc: f32,
@@ -44,7 +46,7 @@ pub struct PolyBlepOscillator {
     sample_rate_hz: u32,
 }
 
-#[derive(Drop)]
+#[derive(Clone, Copy)]
 pub struct OscillatorStep {
     pub osc: PolyBlepOscillator,
     pub sample: f32,
@@ -172,7 +174,7 @@ impl PolyBlepOscillator {
     }
 }
 
-#[derive(Drop)]
+#[derive(Clone, Copy)]
 pub struct PolyBlepVoice {
     osc: PolyBlepOscillator,
     samples_left: u32,
@@ -180,19 +182,19 @@ pub struct PolyBlepVoice {
 }
 
 // The source's `Option<f32>`.
-#[derive(Drop)]
+#[derive(Clone, Copy)]
 pub enum FloatGiven {
     Sample(f32),
     None,
 }
 
-#[derive(Drop)]
+#[derive(Clone, Copy)]
 pub struct FloatStep {
     pub voice: PolyBlepVoice,
     pub given: FloatGiven,
 }
 
-#[derive(Drop)]
+#[derive(Clone, Copy)]
 pub struct PolyBlepStep {
     pub voice: PolyBlepVoice,
     pub given: Given,

@@ -7,13 +7,13 @@ ghost use Rattle.polyblep.specs.Restores.{ValidRestored, ValidRestoredVoice, res
 use super::{PolyBlepOscillator, PolyBlepVoice, PolyBlepWaveform};
 use fixed::float_of;
 
-#[derive(Drop)]
+#[derive(Clone, Copy)]
 pub enum Restored {
     Oscillator(PolyBlepOscillator),
     Refused,
 }
 
-#[derive(Drop)]
+#[derive(Clone, Copy)]
 pub enum RestoredVoice {
     Voice(PolyBlepVoice),
     Refused,

@@ -1,5 +1,5 @@
 -- The sound file as it is kept, and times in it. Assumes nothing.
-use Rattle.std.specs.Prelude.{◌≡◌, ℕ, ◌+◌, ◌*◌, ◌/◌, min, Bool, true, false, cond, not, ◌&&◌, List, ◌++◌, length, take, ℤ, ◌==◌, nat_le, nat_lt}
+use Rattle.std.specs.Prelude.{◌≡◌, ℕ, ◌+◌, ◌*◌, ◌/◌, min, Bool, true, false, cond, not, ◌&&◌, List, ◌++◌, length, take, ℤ, ◌==◌, nat_le, nat_lt, IsErr}
 use Rattle.wav.specs.Wav.{wav_fits, cell_bytes}
 use Rattle.render_texts.specs.declared.Clock.{Clock}
 use Rattle.render.specs.declared.file.SoundFile.{SoundFile}
@@ -48,8 +48,8 @@ held_count held = cond (nat_le held 57344) held 0
 pub record Kept (f : SoundFile) (n : ℕ) (c : Clock) (r : SoundFile) : Type 0 where
   pub held : r.held ≡ n
   pub clock : r.clock ≡ c
-  pub fd : r.fd ≡ f.fd
-  pub failed : f.is_written ≡ false → r.is_written ≡ false
+  pub file : r.file ≡ f.file
+  pub failed : IsErr f.written → IsErr r.written
 
 -- the clock after some cells
 abbrev pub clock_after : Clock → ℕ → List ℤ → Clock

@@ -1,21 +1,25 @@
 // The sound file: frames that are held back and written, the header once all are counted.
-ghost use Rattle.std.specs.Prelude.{◌≡◌, ◌≤◌, ◌&&◌, length};
+ghost use Rattle.std.specs.Prelude.{◌≡◌, ◌≤◌, ◌↔◌, length, IsOk};
 ghost use Rattle.render.specs.Files.{more_frames, other_rate, room_for, held_count, Kept, Adds};
 
 use render_texts::Clock;
+use std::fs::File;
+use std::io;
+use std::io::Write;
+use std::os::unix::fs::FileExt;
 use wav::put_cells;
 
-// The file's descriptor, its rate and frames so far, how many bytes are held back, and whether all went well.
-#[derive(Drop)]
-pub struct SoundFile {
-    pub fd: i32,
+// The file, its rate and frames so far, how many bytes are held back, and how the writing went.
+#[derive(Clone, Copy)]
+pub struct SoundFile<'a> {
+    pub file: &'a File,
     pub clock: Clock,
     pub held: usize,
-    pub is_written: bool,
+    pub written: io::Result<()>,
 }
 
 // Whether frames can go on to a file.
-#[derive(Drop)]
+#[derive(Clone, Copy)]
 pub enum Room {
     Fits,
     NoRate,
@@ -54,40 +58,42 @@ pub fn room_for(c: Clock, rate: u32, cells: usize) -> Room
     if h.fits { Room::Fits } else { Room::TooLong }
 }
 
-fn both(a: bool, b: bool) -> bool
-    ensures { result ≡ a && b }
+// Two steps in turn: how both went, by the later error.
+pub fn both(a: io::Result<()>, b: io::Result<()>) -> io::Result<()>
+    ensures { IsOk result ↔ IsOk a × IsOk b }
 {
-    if a { b } else { false }
+    if b.is_ok() { a } else { b }
 }
 
 // Writes what is held back.
-pub fn flushed(f: SoundFile, kept: &[u8]) -> SoundFile
+pub fn flushed<'a>(f: SoundFile<'a>, kept: &[u8]) -> SoundFile<'a>
     requires { f.held ≤ length kept.now }
-    ensures { Kept f 0 f.clock result }
+    ensures { Kept f.entry 0 f.entry.clock result }
 {
     let n = f.held;
-    let is_written = both(f.is_written, io::write_all(f.fd, &kept[..n]));
+    let mut file = f.file;
+    let written = both(f.written, file.write_all(&kept[..n]));
     SoundFile {
         held: 0,
-        is_written,
+        written,
         ..f
     }
 }
 
 // A file with room for a line's cells.
-fn with_room(f: SoundFile, kept: &[u8]) -> SoundFile
+fn with_room<'a>(f: SoundFile<'a>, kept: &[u8]) -> SoundFile<'a>
     requires { f.held ≤ length kept.now }
-    ensures { Kept f (held_count f.held) f.clock result }
+    ensures { Kept f.entry (held_count f.entry.held) f.entry.clock result }
 {
     if f.held <= 57344 { f } else { flushed(f, kept) }
 }
 
 // A line's cells, behind what is held back.
-pub fn add(f: SoundFile, rate: u32, cells: &[i16], kept: &mut [u8]) -> SoundFile
+pub fn add<'a>(f: SoundFile<'a>, rate: u32, cells: &[i16], kept: &mut [u8]) -> SoundFile<'a>
     requires held_bound { f.held ≤ 65536 }
     requires cells_len_bound { length cells.now ≤ 4096 }
     requires kept_len { length kept.old ≡ 65536 }
-    ensures { Adds f rate cells.now kept.old kept.new result }
+    ensures { Adds f.entry rate cells.now kept.old kept.new result }
 {
     let g = with_room(f, &*kept);
     let at = g.held;
@@ -104,8 +110,8 @@ pub fn add(f: SoundFile, rate: u32, cells: &[i16], kept: &mut [u8]) -> SoundFile
     }
 }
 
-// The first bytes of the file, in their place whatever was written after them; and whether that went well.
-pub fn write_header(fd: i32, c: Clock) -> bool {
+// The first bytes of the file, in their place whatever was written after them.
+pub fn write_header(file: &File, c: Clock) -> io::Result<()> {
     let h = wav::header(c.rate, c.frames);
-    libc::pwrite(fd, &h.bytes, 0) == 44
+    file.write_all_at(&h.bytes, 0)
 }

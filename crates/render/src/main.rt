@@ -1,29 +1,57 @@
 // render OUT.wav [SCRIPT]: runs a replay script, writes what it sounds like to OUT.wav and a short account to standard output. What a
 // line does is `replay_session`'s, what it sounds like is `render_sounds`', what is told of it is `render_account`'s, and how a file is laid out is `wav`'s.
+#![tactic(auto)]
+
 mod file;
+mod input;
 mod problems;
 mod runs;
 
 ghost use Rattle.std.specs.Prelude.{◌≡◌, ◌≤◌};
 ghost use Rattle.render.specs.Files.{rate_of_none, last_clock};
 
-use file::{SoundFile, flushed, write_header};
+use file::{SoundFile, both, flushed, write_header};
+use input::Source;
 use render_texts::Clock;
 use replay_session::Session;
 use runs::{Place, Run, print, rate_of, read_some};
+use std::env::FillError;
+use std::fs::File;
+use std::io::Write;
+use std::rt::Env;
+use std::str;
 
-// The script's descriptor, or -1 where it cannot be opened: the second argument's, or else standard input.
-fn script() -> i32 {
-    if os::arg_count() < 3 {
-        return libc::STDIN_FILENO;
+// Whether the program was started with a word at this place; its own name is at 0.
+fn is_given(rt: &impl Env, i: usize) -> bool {
+    let mut room = [0u8; 1];
+    !matches!(rt.arg(i, &mut room), Err(FillError::NotPresent))
+}
+
+// Puts a word at the front and says how long it is: 0 where it is missing or too long.
+fn word(rt: &impl Env, i: usize, name: &mut [u8; 4096]) -> usize
+    ensures { result ≤ 4096 }
+{
+    rt.arg(i, name).unwrap_or(0)
+}
+
+// The script: the second word's file, or else standard input. None where it cannot be opened.
+fn script(rt: &HostRuntime) -> Option<Source> {
+    if !is_given(rt, 2) {
+        return Some(Source::Input(rt.stdin()));
     }
-    let mut name = io::buffer();
-    let n = os::arg(2, &mut name);
-    let fd = os::open_read(&name[..n]);
-    if fd < 0 {
-        os::fail(&name[..n]);
+    let mut name = [0u8; 4096];
+    let n = word(rt, 2, &mut name);
+    let Ok(path) = str::from_utf8(&name[..n]) else {
+        problems::no_text(rt);
+        return None;
+    };
+    match File::open(rt, path) {
+        Ok(file) => Some(Source::Named(file)),
+        Err(error) => {
+            problems::fail(rt, path, error);
+            None
+        }
     }
-    fd
 }
 
 // The rate of a file without frames: the engine's at the end, or one that players take where that is 0.
@@ -34,13 +62,13 @@ fn rate_of_none(rate: u32) -> u32
 }
 
 // What the header says of the sound that was made.
-fn last_clock(c: Clock, rate: u32) -> Clock
+fn last_clock(rt: &impl Eprint, c: Clock, rate: u32) -> Clock
     ensures { result ≡ last_clock c rate }
 {
     if c.frames > 0 {
         return c;
     }
-    problems::no_frames();
+    problems::no_frames(rt);
     Clock {
         frames: 0,
         rate: rate_of_none(rate),
@@ -48,20 +76,19 @@ fn last_clock(c: Clock, rate: u32) -> Clock
 }
 
 // Writes what is held back and the header, and says how much sound there is.
-fn finish(path: &[u8], f: SoundFile, rate: u32, kept: &[u8; 65536])
+fn finish(rt: &(impl Print + Eprint), path: &str, f: SoundFile<'_>, rate: u32, kept: &[u8; 65536])
     requires { f.held ≤ 65536 }
 {
     let g = flushed(f, kept);
-    let clock = last_clock(g.clock, rate);
-    if write_header(g.fd, clock) && g.is_written {
-        print(render_account::total(clock));
-    } else {
-        os::fail(path);
+    let clock = last_clock(rt, g.clock, rate);
+    match both(g.written, write_header(g.file, clock)) {
+        Ok(()) => print(rt, render_account::total(clock)),
+        Err(error) => problems::fail(rt, path, error),
     }
 }
 
 // A proved loop has to end, and nothing says that the input does: the turns are counted down from a number that no run uses up.
-fn run_all(path: &[u8], input: i32, fd: i32) {
+fn run_all(rt: &(impl Print + Eprint), path: &str, input: &mut Source, file: &File) {
     let mut line = [0u8; 8195];
     let mut lent = [0u8; 4096];
     let mut out = [0u8; 262144];
@@ -74,10 +101,10 @@ fn run_all(path: &[u8], input: i32, fd: i32) {
         more: true,
     };
     let file = SoundFile {
-        fd,
+        file,
         clock,
         held: 0,
-        is_written: true,
+        written: Ok(()),
     };
     let mut r = Run {
         place,
@@ -87,39 +114,42 @@ fn run_all(path: &[u8], input: i32, fd: i32) {
     let mut turns = u64::MAX;
     while turns > 0 && r.place.more {
         r = read_some(
-            r, input, &mut line, &mut lent, &mut out, &mut cells, &mut kept,
+            rt, input, r, &mut line, &mut lent, &mut out, &mut cells, &mut kept,
         );
         turns -= 1;
     }
     let f = r.file;
-    finish(path, f, rate_of(r.session), &kept);
+    finish(rt, path, f, rate_of(r.session), &kept);
 }
 
 // The header goes first, with no frames, so that the cells stand behind it.
-fn render_to(path: &[u8]) {
-    let input = script();
-    if input < 0 {
+fn render_to(rt: &HostRuntime, path: &str) {
+    let Some(mut input) = script(rt) else {
         return;
-    }
-    let fd = os::open_overwrite(path);
-    if fd < 0 {
-        os::fail(path);
-        return;
-    }
+    };
+    let mut file = match File::create(rt, path) {
+        Ok(file) => file,
+        Err(error) => {
+            problems::fail(rt, path, error);
+            return;
+        }
+    };
     let h = wav::header(0, 0);
-    if io::write_all(fd, &h.bytes) {
-        run_all(path, input, fd);
-    } else {
-        os::fail(path);
+    match file.write_all(&h.bytes) {
+        Ok(()) => run_all(rt, path, &mut input, &file),
+        Err(error) => problems::fail(rt, path, error),
     }
 }
 
-fn main() {
-    let mut name = io::buffer();
-    let n = os::arg(1, &mut name);
-    if n == 0 || os::arg_count() > 3 {
-        problems::usage();
+fn main(rt: HostRuntime) {
+    let mut name = [0u8; 4096];
+    let n = word(&rt, 1, &mut name);
+    if n == 0 || is_given(&rt, 3) {
+        problems::usage(&rt);
         return;
     }
-    render_to(&name[..n]);
+    match str::from_utf8(&name[..n]) {
+        Ok(path) => render_to(&rt, path),
+        Err(_) => problems::no_text(&rt),
+    }
 }

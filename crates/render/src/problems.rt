@@ -3,56 +3,82 @@ ghost use Rattle.std.specs.Prelude.{◌≡◌};
 ghost use Rattle.render.specs.Files.{tens_of, fits};
 
 use crate::file::Room;
-use libc::STDERR_FILENO;
 use render_texts::Clock;
+use std::io::{Cursor, Write};
+use std::{io, str};
 
-fn note(words: &[u8]) {
-    io::write_all(STDERR_FILENO, words);
+fn note(rt: &impl Eprint, words: &str) {
+    let _ = rt.eprint(words);
 }
 
-pub fn usage() {
-    note(b"usage: render OUT.wav [SCRIPT]\n");
+pub fn usage(rt: &impl Eprint) {
+    note(rt, "usage: render OUT.wav [SCRIPT]\n");
 }
 
-fn at_line(number: u64, words: &[u8]) {
-    note(b"render: line ");
-    io::print_decimal(STDERR_FILENO, number);
-    note(b": ");
-    note(words);
+fn at_line(rt: &impl Eprint, number: u64, words: &str) {
+    let _ = eprintln!(rt; "render: line {number}: {words}");
 }
 
-pub fn bad_line(number: u64) {
+pub fn bad_line(rt: &impl Eprint, number: u64) {
     at_line(
+        rt,
         number,
-        b"no record, or one that needs an open engine; the sound up to here is kept\n",
+        "no record, or one that needs an open engine; the sound up to here is kept",
     );
 }
 
-pub fn no_frames() {
-    note(b"render: the script has no frames, and the file has none\n");
+pub fn no_frames(rt: &impl Eprint) {
+    note(
+        rt,
+        "render: the script has no frames, and the file has none\n",
+    );
+}
+
+// A name that is no text, which std opens no file by.
+pub fn no_text(rt: &impl Eprint) {
+    note(rt, "render: a file's name is not UTF-8\n");
+}
+
+// An error's text, without the system's number that stands behind it.
+fn reason(text: &str) -> &str {
+    match text.split_once(" (os error ") {
+        Some((words, _)) => words,
+        None => text.trim_end_matches('\0'),
+    }
+}
+
+// What failed, and why.
+pub fn fail(rt: &impl Eprint, what: &str, error: io::Error) {
+    let mut text = Cursor::new([0u8; 512]);
+    let _ = write!(text, "{error}");
+    let bytes = text.into_inner();
+    let words = reason(str::from_utf8(&bytes).unwrap_or(""));
+    let _ = eprintln!(rt; "{what}: {words}");
 }
 
 // Says why frames cannot go on to the file, and answers whether they can.
-pub fn has_room(r: Room, number: u64) -> bool
+pub fn has_room(rt: &impl Eprint, r: Room, number: u64) -> bool
     ensures { result ≡ fits r }
 {
     match r {
         Room::Fits => true,
         Room::NoRate => {
-            at_line(number, b"frames at rate 0; the sound up to here is kept\n");
+            at_line(rt, number, "frames at rate 0; the sound up to here is kept");
             false
         }
         Room::OtherRate => {
             at_line(
+                rt,
                 number,
-                b"a file has one rate, and the rate changed after its first frame; the sound up to here is kept\n",
+                "a file has one rate, and the rate changed after its first frame; the sound up to here is kept",
             );
             false
         }
         Room::TooLong => {
             at_line(
+                rt,
                 number,
-                b"the file would pass 4 GiB; the sound up to here is kept\n",
+                "the file would pass 4 GiB; the sound up to here is kept",
             );
             false
         }
@@ -69,10 +95,9 @@ fn tens(c: Clock) -> u64
 }
 
 // At each further 10 s, on one line that whatever comes next is written over.
-pub fn progress(before: Clock, after: Clock) {
+pub fn progress(rt: &impl Eprint, before: Clock, after: Clock) {
     let n = tens(after);
     if n > tens(before) {
-        io::print_decimal(STDERR_FILENO, n);
-        note(b"0 s of sound\r");
+        let _ = eprint!(rt; "{n}0 s of sound\r");
     }
 }

@@ -1,4 +1,6 @@
 // What a person is told of a line of a script that was answered. The answer's text has the number first, then the voice.
+#![tactic(auto)]
+
 ghost use Rattle.std.specs.Prelude.{◌++◌};
 ghost use Rattle.render_texts.specs.Texts.{Says, Tells, Adds, decimal};
 ghost use Rattle.replay_box.specs.Boxes.{ValidBox};

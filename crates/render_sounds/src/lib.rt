@@ -1,5 +1,7 @@
 // What a line of a replay script sounds like. The session's own answer moves the run on; the sound is worked out beside it, on a copy of
 // the box.
+#![tactic(auto)]
+
 ghost use Rattle.std.specs.Prelude.{◌≡◌, ◌*◌, ◌≤◌, length, take};
 ghost use Rattle.replay_box.specs.Boxes.{ValidBox};
 ghost use Rattle.replay_session.specs.Sessions.{ValidSession};

@@ -1,37 +1,46 @@
 -- A number's digits without zeros in front. Assumes nothing.
-use Prim.Native.Nat.{ℕ, zero, suc, ◌-◌, ◌*◌, ◌/◌, ◌%◌, ◌^◌, ◌≤◌, ◌<◌}
+use Prim.Native.Nat.{ℕ, zero, suc, ◌/◌, ◌≤◌, ◌<◌, ◌-◌, ◌^◌, ◌*◌}
 use mathlib.Core.Path.{◌≡◌, refl}
-use mathlib.Core.Bool.{Bool, true, false}
-use mathlib.Core.List.{[]}
-use native.Mathlib.Nat.{pow-suc, one-le-pow, pow-le-pow_right, lt_of_le_of_lt}
-use native.Mathlib.Numerals.{unary_clauses}
+use mathlib.Core.Bool.{Bool, true, false, cond}
+use mathlib.Core.List.{List, [], ◌∷◌, ◌++◌, append_assoc}
+use native.Mathlib.Nat.{pow-suc}
+use native.Mathlib.Numerals.{add-one}
 use native.Mathlib.Omega.{arith}
-use borrow.Author.Tests.{lt-ltb, le-ltb, leb-true, leb-false}
-use lib.Dec.{leb}
-use Rattle.io.specs.Digits.{hex_digit_ascii, last_digits, IsDigitCount}
+use borrow.Author.Tests.{ltb-true, ltb-false, ne_eqb}
+use lib.Dec.{ltb, eqb}
+use lib.ListN.{length, drop, set}
+use Rattle.std.proofs.lemmas.List.{drop-set}
 use Rattle.render_texts.specs.Texts.{digit, spelled}
 
-same-glyph : (n : ℕ) → hex_digit_ascii (n % 10) ≡ digit n
-same-glyph n = rw (lt-ltb (n % 10) 10 (omega arith))
+-- the digits that are still to come, in so many places
+abbrev pub front : ℕ → ℕ → List ℕ
+front places rest = cond (eqb rest 0) [] (spelled places rest)
 
--- the fewest digits are those of the number
-pub fewest : (f k n : ℕ) → k ≤ f → IsDigitCount 10 1 n k → last_digits 10 k n ≡ spelled f n
+-- the last digit, behind the others
+pub last : (places n : ℕ) → spelled (suc places) n ≡ front places (n / 10) ++ (digit n ∷ [])
 unfolding spelled
-fewest f zero n h e = absurd (omega (arith, e.0))
-fewest zero (suc k) n h e = absurd (omega arith)
-fewest (suc f) (suc zero) n h e = rw (lt-ltb n 10 e.1, same-glyph n)
-fewest (suc f) (suc (suc k)) n h e =
-    let most : n < 10 ^ k * 10 * 10 = simp (unary_clauses, pow-suc) at e.1 in
-    let least : 10 ^ k * 10 ≤ n = simp (unary_clauses, pow-suc) at (e.2 (omega arith)) in
-    let one : 1 ≤ 10 ^ k = one-le-pow k 10 (omega arith) in
-    rw (le-ltb n 10 (omega arith), same-glyph n, fewest f (suc k) (n / 10) (omega arith) (omega arith, simp pow-suc (omega arith), λ _. simp unary_clauses (omega arith)))
-
--- a number below 2^64 has at most 20 digits
-pub twenty : (k n : ℕ) → n < 18446744073709551616 → IsDigitCount 10 1 n k → k ≤ 20
-twenty k n h e = by (leb k 20) refl
+last places n = by (ltb n 10) refl
   where
-    by : (t : Bool) → leb k 20 ≡ t → k ≤ 20
-    by true q = leb-true k 20 q
-    by false q =
-        let more = lt_of_le_of_lt (e.2 (omega (arith, leb-false k 20 q))) h in
-        absurd (omega (arith, more, pow-le-pow_right {n = 10} (omega arith) {i = 20} {j = k - 1} (omega (arith, leb-false k 20 q))))
+    by : (t : Bool) → ltb n 10 ≡ t → cond t [] (spelled places (n / 10)) ++ (digit n ∷ []) ≡ front places (n / 10) ++ (digit n ∷ [])
+    by true e = let z : n / 10 ≡ 0 = omega (arith, ltb-true n 10 e) in rw z refl
+    by false e = rw (ne_eqb (n / 10) 0 (omega (arith, ltb-false n 10 e)))
+
+-- one turn: the last digit of what is still to come goes before those that stand
+turn : (digits : List ℕ) (at rest : ℕ) → 0 < rest → at < length digits
+    → front at (rest / 10) ++ drop at (set digits at (digit rest)) ≡ front (suc at) rest ++ drop (suc at) digits
+turn digits at rest h k =
+    rw (drop-set digits at (digit rest) k, add-one at, ne_eqb rest 0 (omega arith), last at rest, append_assoc (front at (rest / 10)) (digit rest ∷ []) (drop (suc at) digits)) refl
+
+-- the same where the place is counted down
+pub put : (digits : List ℕ) (at rest : ℕ) → 0 < rest → rest < 10 ^ at → at ≤ length digits
+    → front (at - 1) (rest / 10) ++ drop (at - 1) (set digits (at - 1) (digit rest)) ≡ front at rest ++ drop at digits
+put digits zero rest h k n = absurd (omega arith)
+put digits (suc at) rest h k n = let z : suc at - 1 ≡ at = omega arith in rw z (turn digits at rest h (omega arith))
+
+-- a digit takes a place
+pub fewer : (at rest : ℕ) → 0 < rest → rest < 10 ^ at → rest / 10 < 10 ^ (at - 1)
+fewer zero rest h k = absurd (omega arith)
+fewer (suc at) rest h k =
+    let z : suc at - 1 ≡ at = omega arith in
+    let e : rest < 10 ^ at * 10 = rw (← pow-suc 10 at) k in
+    rw z (omega arith)

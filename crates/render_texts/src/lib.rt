@@ -1,16 +1,18 @@
 // A line of text as it is put together: words, numbers and times. What goes past its room is left out.
-ghost use Rattle.std.specs.Prelude.{◌≡◌, [], min};
+#![tactic(auto)]
+
+ghost use Rattle.std.specs.Prelude.{◌≡◌, ◌≤◌, [], min, drop};
 ghost use Rattle.render_texts.specs.Texts as T;
 
 // The first len of these bytes.
-#[derive(Drop)]
+#[derive(Clone, Copy)]
 pub struct Text {
     pub bytes: [u8; 256],
     pub len: usize,
 }
 
 // A time in the sound: so many frames, at a rate.
-#[derive(Drop)]
+#[derive(Clone, Copy)]
 pub struct Clock {
     pub frames: u32,
     pub rate: u32,
@@ -45,12 +47,34 @@ pub fn say(t: Text, words: &[u8]) -> Text
     Text { bytes, len }
 }
 
+fn digit(n: u64) -> u8
+    ensures { result ≡ T.digit n }
+{
+    48 + (n % 10) as u8
+}
+
+// Puts a number's digits at the end, and says where they begin.
+fn decimal(n: u64, digits: &mut [u8; 20]) -> usize
+    ensures in_bounds { result ≤ 20 }
+    ensures digits { drop result digits.new ≡ T.decimal n }
+{
+    let mut at = 19;
+    digits[at] = digit(n);
+    let mut rest = n / 10;
+    while rest > 0 {
+        at -= 1;
+        digits[at] = digit(rest);
+        rest /= 10;
+    }
+    at
+}
+
 pub fn count(t: Text, n: u64) -> Text
     ensures { T.Adds t (T.decimal n) result }
 {
     let mut digits = [0u8; 20];
-    let k = io::decimal(n, &mut digits);
-    say(t, &digits[..k])
+    let k = decimal(n, &mut digits);
+    say(t, &digits[k..])
 }
 
 // A number of things, as "1 voice" and "3 voices".
@@ -63,12 +87,6 @@ pub fn things(t: Text, n: u64, name: &[u8]) -> Text
         return named;
     }
     say(named, b"s")
-}
-
-fn digit(n: u64) -> u8
-    ensures { result ≡ T.digit n }
-{
-    48 + (n % 10) as u8
 }
 
 fn milliseconds(c: Clock) -> u64

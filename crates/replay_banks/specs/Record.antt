@@ -1,5 +1,5 @@
 -- Record 83 of the replay: the fields from byte 1 on, and what it prints. Assumes nothing.
-use Rattle.std.specs.Prelude.{ℕ, ◌+◌, ◌-◌, ◌*◌, ◌/◌, min, ◌≡◌, List, length, take, drop, replicate}
+use Rattle.std.specs.Prelude.{ℕ, ◌-◌, ◌*◌, ◌/◌, min, ◌≡◌, List, length, take, drop, replicate}
 use Rattle.error.specs.Told.{Told, value, refused}
 use Rattle.hex_digits.specs.Hex.{byte_at, wide_at, bytes_from}
 use Rattle.replay_cells.specs.Cells.{byte_text, numbered_text}

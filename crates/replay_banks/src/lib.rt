@@ -1,4 +1,6 @@
 // The replay's record of writing a bank, 83.
+#![tactic(auto)]
+
 ghost use Rattle.std.specs.Prelude.{◌≡◌, ◌-◌, ◌/◌, min, length, replicate};
 ghost use Rattle.hex_digits.specs.Hex.{Wrote};
 ghost use Rattle.replay_banks.specs.Record.{header_at, rest_at, end_of, bank_of, bank_text, Left};

@@ -7,7 +7,7 @@ ghost use Rattle.replay_box.specs.Frames.{Fills, Levels};
 use crate::OpenBox;
 use buffers::{Level, Shape};
 
-#[derive(Drop)]
+#[derive(Clone, Copy)]
 pub struct BoxFilled {
     pub held: OpenBox,
     pub filled: usize,

@@ -1,4 +1,6 @@
 // The box that a script has open: document 01's, or one of the present rules. Each call goes to the one that is open; the other stays as it is.
+#![tactic(auto)]
+
 ghost use Rattle.std.specs.Prelude.{length};
 ghost use Rattle.laws.specs.Made.{Made};
 ghost use Rattle.replay_box.specs.Boxes.{ValidBox, ValidBoxChanged, no_box, opened, panned, with_master_gain, stopped, banked};
@@ -16,20 +18,20 @@ pub mod ticks;
 mod waits;
 
 // Which of the two is open, and both: one that is not open is as it was when it was left.
-#[derive(Drop)]
+#[derive(Clone, Copy)]
 pub struct OpenBox {
     present: bool,
     engine: AudioEngine,
     sounder: Sounder,
 }
 
-#[derive(Drop)]
+#[derive(Clone, Copy)]
 pub struct BoxChanged {
     pub outcome: Outcome,
     pub held: OpenBox,
 }
 
-#[derive(Drop)]
+#[derive(Clone, Copy)]
 pub struct BoxPlayed {
     pub outcome: PlayOutcome,
     pub held: OpenBox,

@@ -5,26 +5,26 @@ ghost use Rattle.replay_box.specs.Frames.{ValidSample, ValidDuty, ValidSides, Va
 
 use crate::OpenBox;
 
-#[derive(Drop)]
+#[derive(Clone, Copy)]
 pub struct BoxSample {
     pub held: OpenBox,
     pub pcm: i8,
 }
 
-#[derive(Drop)]
+#[derive(Clone, Copy)]
 pub struct BoxDuty {
     pub held: OpenBox,
     pub duty: u16,
 }
 
-#[derive(Drop)]
+#[derive(Clone, Copy)]
 pub struct BoxSides {
     pub held: OpenBox,
     pub left: i8,
     pub right: i8,
 }
 
-#[derive(Drop)]
+#[derive(Clone, Copy)]
 pub struct BoxWideSides {
     pub held: OpenBox,
     pub left: i16,

@@ -1,4 +1,6 @@
 // The records of an open held: each makes its call and says what is answered.
+#![tactic(auto)]
+
 ghost use Rattle.std.specs.Prelude.{◌≡◌, ◌&&◌, leb};
 ghost use Rattle.laws.specs.Made.{Made};
 ghost use Rattle.hex_digits.specs.Hex.{byte_at};
@@ -18,7 +20,7 @@ use replay_fields::{flag_number, polyblep_waveform, spec_at, tone_waveform};
 
 // What is answered: that the line is bad, nothing, one number or two, a number of four digits or two of them, a number and a label of four digits, an
 // entry, the part of the bank that was asked for, the state, the policy, the configuration, the voice at an index, the ranks, the labels that wait.
-#[derive(Drop)]
+#[derive(Clone, Copy)]
 pub enum Reply {
     Bad,
     Nothing,
@@ -38,7 +40,7 @@ pub enum Reply {
 }
 
 // The box after the call.
-#[derive(Drop)]
+#[derive(Clone, Copy)]
 pub struct Called {
     pub reply: Reply,
     pub held: OpenBox,

@@ -1,5 +1,7 @@
 // Lists of numbers as lines of digits, from the front of the buffer on: a number in so many digits, and every cell at its width, as far
 // as the buffer goes.
+#![tactic(auto)]
+
 ghost use Rattle.std.specs.Prelude.{◌≡◌, ◌+◌};
 ghost use Rattle.hex_digits.specs.Hex.{Laid};
 ghost use Rattle.replay_cells.specs.Cells.{byte_text, wide_text, i8_text, i16_text, i32_text, numbered_text};

@@ -1,4 +1,6 @@
 // An engine's state as a dump prints it.
+#![tactic(auto)]
+
 ghost use Rattle.std.specs.Prelude.{◌≡◌, ◌+◌, ◌*◌, ◌≤◌};
 ghost use Rattle.mixer.specs.Mixers.{Valid, voices_of};
 ghost use Rattle.hex_digits.specs.Hex.{Laid, Wrote};
@@ -13,7 +15,7 @@ use replay_fields::{flag_number, put_voice};
 const NOTHING: u64 = 0xffff_ffff_ffff_ffff;
 
 // The fields of a bank.
-#[derive(Drop)]
+#[derive(Clone, Copy)]
 struct BankFields {
     count: u64,
     len: u64,

@@ -1,5 +1,7 @@
 // The fields that records share: an envelope's times, duty modes and waveforms as a line has them, and a state's fields, 16 digits
 // each.
+#![tactic(auto)]
+
 ghost use Rattle.std.specs.Prelude.{◌≡◌, not, ◌+◌, ◌≤◌, T};
 ghost use Rattle.std.specs.Float.{binary32};
 ghost use Rattle.std.specs.Float.Ieee.{to_bits, is_nan};

@@ -1,4 +1,6 @@
 // The records that fill a buffer: each makes its call and prints every cell, from the front of the answer on.
+#![tactic(auto)]
+
 ghost use Rattle.std.specs.Prelude.{◌≡◌, ◌≤◌, min, replicate};
 ghost use Rattle.replay_box.specs.Boxes.{ValidBox};
 ghost use Rattle.output.specs.Levels.{raised};
@@ -11,7 +13,7 @@ use replay_box::OpenBox;
 use replay_cells::{put_i8s, put_i16s, put_i32s, put_u8s, put_u16s};
 
 // How long the answer is, and the box after the fill.
-#[derive(Drop)]
+#[derive(Clone, Copy)]
 pub struct Shown {
     pub len: usize,
     pub held: OpenBox,

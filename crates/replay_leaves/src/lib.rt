@@ -1,4 +1,6 @@
 // Answers to a script's lines: records 40 to 48 of the replay format, our own 50 to 6A, and 80 to 86 of document 02's requests.
+#![tactic(auto)]
+
 ghost use Rattle.std.specs.Prelude.{◌≡◌};
 ghost use Rattle.replay_leaves.specs.Replies.{sized, duties_reply, pattern_reply, recording_reply, bank_reply, added_reply, own_reply, reply_for, reply_of};
 ghost use Rattle.replay_leaves.specs.Answers.{Answers};
@@ -13,7 +15,7 @@ mod sounds;
 mod voices;
 
 // What is answered to a line: that it is bad, a number in so many digits, or one of the runs.
-#[derive(Drop)]
+#[derive(Clone, Copy)]
 pub enum Reply {
     Bad,
     Word { value: u64, digits: u8 },
@@ -30,7 +32,7 @@ pub enum Reply {
 }
 
 // How many bytes the answer has, and whether the run goes on.
-#[derive(Drop)]
+#[derive(Clone, Copy)]
 pub struct Answered {
     pub len: usize,
     pub more: bool,

@@ -14,7 +14,7 @@ use output::{Mapped, Period, PeriodRead, PwmMapper, SigmaDelta};
 use replay_fields::{mode_of, put_adsr, spec_at};
 
 // An envelope after some ticks, and the place after their levels.
-#[derive(Drop)]
+#[derive(Clone, Copy)]
 struct Ticked {
     envelope: Envelope,
     next: usize,
@@ -101,7 +101,7 @@ pub(crate) fn state(l: &[u8], out: &mut [u8; 262144]) -> usize
 }
 
 // What the last sample was mapped to, and the place after the duties.
-#[derive(Drop)]
+#[derive(Clone, Copy)]
 struct MappedTo {
     last: Mapped,
     next: usize,

@@ -16,7 +16,7 @@ use replay_fields::{polyblep_waveform, put_source, tone_waveform};
 use voice::{Carrier, SourceStep, VoiceSource};
 
 // A source after some requests, with what the last one gave, and the place after their texts.
-#[derive(Drop)]
+#[derive(Clone, Copy)]
 struct Requested {
     last: SourceStep,
     next: usize,

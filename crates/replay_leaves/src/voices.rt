@@ -15,7 +15,7 @@ use replay_fields::{flag_number, put_voice, spec_at};
 use voice::{StereoGiven, StereoStep, Voice, VoiceStep};
 
 // A voice after some frames, and the place after their texts.
-#[derive(Drop)]
+#[derive(Clone, Copy)]
 struct Framed {
     voice: Voice,
     next: usize,

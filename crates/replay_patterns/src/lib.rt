@@ -1,4 +1,6 @@
 // The replay's records of the evacuation pattern: 80 prints a run of its samples, 81 reads a recording.
+#![tactic(auto)]
+
 ghost use Rattle.std.specs.Prelude.{◌≡◌, ◌++◌, ◌-◌, ◌/◌, ◌≤◌, min};
 ghost use Rattle.hex_digits.specs.Hex.{bytes_from, hex_of, newline, Wrote};
 ghost use Rattle.error.specs.Told.{value};

@@ -1,4 +1,6 @@
 // Each reply as text, from the front of the buffer on.
+#![tactic(auto)]
+
 ghost use Rattle.std.specs.Prelude.{◌≡◌};
 ghost use Rattle.bank.specs.Banks.{told_payload};
 ghost use Rattle.error.specs.Told.{number_in};

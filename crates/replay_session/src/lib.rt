@@ -1,4 +1,6 @@
 // A run over a script's lines: the box that is open, the bytes lent to it, and what is answered to each line.
+#![tactic(auto)]
+
 ghost use Rattle.std.specs.Prelude.{◌≡◌, ◌-◌, ◌/◌, ◌≤◌, length, take};
 ghost use Rattle.std.proofs.lemmas.List.Edits.{sets};
 ghost use Rattle.laws.specs.Made.{Made};
@@ -16,7 +18,7 @@ use replay_fills::fill;
 use replay_replies::put_reply;
 
 // Whether a box is open, how many bytes are lent, and the box: one of no voices where none is open.
-#[derive(Drop)]
+#[derive(Clone, Copy)]
 pub struct Session {
     is_open: bool,
     lent: usize,
@@ -24,7 +26,7 @@ pub struct Session {
 }
 
 // How many bytes the answer has, whether the run goes on, and the run after the line.
-#[derive(Drop)]
+#[derive(Clone, Copy)]
 pub struct SessionAnswered {
     pub len: usize,
     pub more: bool,

@@ -1,4 +1,6 @@
 // The records of requests that wait, and every record of an open box.
+#![tactic(auto)]
+
 ghost use Rattle.std.specs.Prelude.{◌≡◌};
 ghost use Rattle.laws.specs.Made.{Made};
 ghost use Rattle.replay_box.specs.Boxes.{ValidBox};

@@ -35,7 +35,7 @@ use Rattle.start.proofs.Laws.{Heard, request-heard, request-value}
 use Rattle.voice.specs.Voices as S
 use Rattle.voice.specs.Voices.{audible}
 use Rattle.voice.specs.declared.Voice.{Voice}
-use Rattle.requests.specs.Players.{Lawful, played_in}
+use Rattle.requests.specs.Players.{Lawful}
 use Rattle.requests.specs.Presents.{started_in, left_by, player_by, played_present, ValidPresentPlayed, RanksAlone}
 use Rattle.requests.specs.Steps.{renewed_by}
 use Rattle.requests.specs.declared.PresentPlayed.{PresentPlayed}

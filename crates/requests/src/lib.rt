@@ -1,4 +1,6 @@
 // A list of play requests, ten bytes each, to the state of a box: a part of every box that takes them.
+#![tactic(auto)]
+
 ghost use Rattle.std.specs.Prelude.{◌≡◌, ◌+◌, ◌≤◌, ◌<◌, length, set};
 ghost use Rattle.laws.specs.Made.{Made};
 ghost use Rattle.marks.specs.Marks.{Valid, ValidIn};
@@ -14,7 +16,7 @@ use play::places::{Placed, place};
 use start::Request;
 
 // A state of the present rules, and the voice that the request got.
-#[derive(Drop)]
+#[derive(Clone, Copy)]
 pub struct PresentPlayed {
     pub outcome: PlayOutcome,
     pub present: Present,

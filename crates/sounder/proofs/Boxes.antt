@@ -3,8 +3,8 @@ use Prim.Native.Nat.{ℕ}
 use mathlib.Core.Path.{◌≡◌, ap, ◌∙◌}
 use mathlib.Core.List.{List, [], ◌∷◌}
 use lib.IntN.{ℤ, pos}
-use lib.ListN.{get_or, length}
-use Rattle.buffers.specs.Buffers.{FillsIn, to_i8}
+use lib.ListN.{get_or}
+use Rattle.buffers.specs.Buffers.{to_i8}
 use Rattle.buffers.specs.declared.Level.TheVariants.{Duty}
 use Rattle.buffers.specs.declared.Shape.TheVariants.{Once, Sides}
 use Rattle.laws.specs.Made.{Made}

@@ -1,11 +1,10 @@
 -- Which voices the calls that start one leave audible: no other than were before. Assumes nothing.
-use Prim.Native.Nat.{ℕ, zero, suc, ◌≤◌}
-use native.Mathlib.Omega.{arith}
-use mathlib.Core.Path.{◌≡◌, refl, ap, sym, ◌∙◌}
+use Prim.Native.Nat.{ℕ, zero, suc}
+use mathlib.Core.Path.{◌≡◌, refl, sym, ◌∙◌}
 use mathlib.Core.Bool.{Bool, true, false, cond}
 use mathlib.Core.List.{List, [], ◌∷◌, map}
 use lib.Dec.{ltb, eqb}
-use lib.ListN.{length, get_or, set}
+use lib.ListN.{get_or, set}
 use lib.Seq.{get_or-set_other}
 use Rattle.bank.specs.Search.{found_given}
 use Rattle.bank.specs.declared.EffectEntry.{EffectEntry}
@@ -27,7 +26,7 @@ use Rattle.polyblep.specs.declared.PolyBlepWaveform.{PolyBlepWaveform}
 use Rattle.start.specs.Starts.{entry_start_under}
 use Rattle.tone.specs.declared.Waveform.{Waveform}
 use Rattle.voice.specs.Sources.{active_source}
-use Rattle.voice.specs.Voices.{audible, sounding, silent_voice, released_voice}
+use Rattle.voice.specs.Voices.{audible, silent_voice, released_voice}
 use Rattle.voice.specs.declared.Voice.{Voice}
 use Rattle.voice.proofs.Laws.{or-false}
 

@@ -8,13 +8,11 @@ use mathlib.Core.Logic.{◌⊎◌, inl, inr}
 use mathlib.Core.Option.{some}
 use borrow.Author.Tests.{ltb-true, ltb-false}
 use lib.Dec.{ltb}
-use lib.ListN.{length, get_or, get_elem?, set, take, length-set}
+use lib.ListN.{length, get_or, get_elem?, set, length-set}
 use lib.Seq.{get_or-set_other}
 use Rattle.config.specs.Config.{rounded_up}
-use Rattle.entering.specs.Entering.{entered, entered_in}
+use Rattle.entering.specs.Entering.{entered_in}
 use Rattle.entering.specs.Fates.{Fate, Tried, Tries, over, next}
-use Rattle.entering.specs.Lined as E
-use Rattle.entering.specs.Lined.{lined}
 use Rattle.entering.specs.declared.Lined.{Lined}
 use Rattle.entering.proofs.Fates.{not-given, enters-in}
 use Rattle.entering.proofs.Free.{is-first}
@@ -22,14 +20,13 @@ use Rattle.entering.proofs.Laws.{none-enters, enter-keeps}
 use Rattle.error.specs.Told.{Told, value, refused}
 use Rattle.frame.specs.Fades.{next_t, voice_at}
 use Rattle.frame.specs.Frames.{mono_frame_by, duty_frame_by, stereo_frame_by, enveloped, sampled}
-use Rattle.frame.specs.Lasting.{frames_left, frame, after_all}
+use Rattle.frame.specs.Lasting.{frames_left, after_all}
 use Rattle.frame.specs.Sounding.{advanced_state, run_alone}
 use Rattle.frame.proofs.Lasting.{Moves, valid-moves, up-some, up_more, left-none, same_left}
 use Rattle.frame.proofs.Alike.{settling-alike}
 use Rattle.frame.proofs.Sized.{Sized, Ready, valid-ready, sized-advanced}
 use Rattle.frame.proofs.Sounding.{Runs, runs-heard, runs-still, runs-settled, gives-sample, gives-pair, mono-runs, duty-runs, stereo-runs, still-runs, ends-runs, framed-heard}
 use Rattle.laws.specs.Runs.{after}
-use Rattle.marks.specs.Marks as K
 use Rattle.marks.specs.Marks.{started_mark, marked_at, beside, settled}
 use Rattle.marks.specs.declared.Mark.{Mark}
 use Rattle.marks.specs.declared.Present.{Present}
@@ -125,11 +122,11 @@ record Gone (o v : Voice) (w : Bool) (n : ℕ) (s : Lined) : Type 0 where
   going : Going o v w s.present
   free : Free s n v
 
-frames-going : {o v : Voice} {w : Bool} (fs : List Lent) (n : ℕ) (s : Sounder) → Going o v w s.state.present → Free s.state (length fs + n) v
+frames-going : {o : Voice} {w : Bool} (fs : List Lent) {v : Voice} (n : ℕ) (s : Sounder) → Going o v w s.state.present → Free s.state (length fs + n) v
     → Gone o (run_alone (length fs) v) w n (frames_after fs s).state
 unfolding after_all after
-frames-going {v = v} [] n s g h = let e : length {A = Lent} [] + n ≡ n = omega arith in record { going = g; free = rw e at h }
-frames-going {v = v} (f ∷ fs) n s g h =
+frames-going [] {v = v} n s g h = let e : length {A = Lent} [] + n ≡ n = omega arith in record { going = g; free = rw e at h }
+frames-going (f ∷ fs) {v = v} n s g h =
     let e : length (f ∷ fs) + n ≡ suc (length fs + n) = omega arith in
     let l : Free s.state (suc (length fs + n)) v = rw e at h in
     frames-going fs n (framed f s)

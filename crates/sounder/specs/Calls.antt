@@ -8,7 +8,6 @@ use Rattle.entering.specs.declared.Lined.{Lined}
 use Rattle.envelope.specs.declared.AdsrSpec.{AdsrSpec}
 use Rattle.marks.specs.Marks.{no_marks, started_mark, marked_at, settled, beside}
 use Rattle.marks.specs.declared.Marks.{Marks}
-use Rattle.marks.specs.declared.Present.{Present}
 use Rattle.mixer.specs.Mixers as M
 use Rattle.mixer.specs.declared.Changed.{Changed}
 use Rattle.mixer.specs.declared.Outcome.{Outcome}
@@ -16,8 +15,6 @@ use Rattle.mixer.specs.declared.Outcome.TheVariants as O
 use Rattle.mixer.specs.declared.VoiceStealingPolicy.{VoiceStealingPolicy}
 use Rattle.play.specs.Fades as F
 use Rattle.play.specs.Plays as P
-use Rattle.play.specs.declared.PlayOutcome.{PlayOutcome}
-use Rattle.play.specs.declared.PlayOutcome.TheVariants as Q
 use Rattle.polyblep.specs.declared.PolyBlepWaveform.{PolyBlepWaveform}
 use Rattle.requests.specs.Presents.{played_present}
 use Rattle.start.specs.declared.Request.{Request}

@@ -10,7 +10,7 @@ use crate::Sounder;
 use buffers::{Level, Shape};
 
 // A box after a buffer was filled, and how many cells were written.
-#[derive(Drop)]
+#[derive(Clone, Copy)]
 pub struct SounderFilled {
     pub sounder: Sounder,
     pub filled: usize,

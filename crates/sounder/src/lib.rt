@@ -1,4 +1,6 @@
 // The box of the present rules: its open calls over the mixer's parts. Its state is private, so that each box comes from these calls.
+#![tactic(auto)]
+
 ghost use Rattle.std.specs.Prelude.{◌≡◌, true, length, map};
 ghost use Rattle.laws.specs.Made.{Made};
 ghost use Rattle.allocate.specs.Allocation.{allocated_oldest, told_place};
@@ -26,20 +28,20 @@ pub mod starts;
 pub mod ticks;
 mod waits;
 
-#[derive(Drop)]
+#[derive(Clone, Copy)]
 pub struct Sounder {
     state: Lined,
 }
 
 // A box, and whether the call was refused.
-#[derive(Drop)]
+#[derive(Clone, Copy)]
 pub struct SounderChanged {
     pub outcome: Outcome,
     pub sounder: Sounder,
 }
 
 // A box, and the voice that the request got.
-#[derive(Drop)]
+#[derive(Clone, Copy)]
 pub struct SounderPlayed {
     pub outcome: PlayOutcome,
     pub sounder: Sounder,

@@ -6,28 +6,28 @@ ghost use Rattle.sounder.specs.Frames.{ValidSample, ValidDuty, ValidSides, Valid
 use crate::Sounder;
 
 // A box after a frame, and the frame's sample.
-#[derive(Drop)]
+#[derive(Clone, Copy)]
 pub struct SounderSample {
     pub sounder: Sounder,
     pub pcm: i8,
 }
 
 // And the sample's duty.
-#[derive(Drop)]
+#[derive(Clone, Copy)]
 pub struct SounderDuty {
     pub sounder: Sounder,
     pub duty: u16,
 }
 
 // And both sides of a stereo frame, at 8 bits and at 16.
-#[derive(Drop)]
+#[derive(Clone, Copy)]
 pub struct SounderSides {
     pub sounder: Sounder,
     pub left: i8,
     pub right: i8,
 }
 
-#[derive(Drop)]
+#[derive(Clone, Copy)]
 pub struct SounderWideSides {
     pub sounder: Sounder,
     pub left: i16,

@@ -1,5 +1,7 @@
 // How many frames surely pass before a voice can fall inaudible: where requests wait and no voice is free, so many frames can be made at once. A part of the
 // box of the present rules (document 02, T-08).
+#![tactic(auto)]
+
 ghost use Rattle.std.specs.Prelude.{◌≡◌, min};
 ghost use Rattle.mixer.specs.Mixers.{Valid};
 ghost use Rattle.voice.specs.Voices as S;

@@ -1,4 +1,6 @@
 // Starting a voice: by a bank's entry, or by a tone. A start gives a voice; to store it is its caller's.
+#![tactic(auto)]
+
 ghost use Rattle.std.specs.Prelude.{◌≡◌, ◌≤◌};
 ghost use Rattle.laws.specs.Made.{Made};
 ghost use Rattle.error.specs.Told.{Answered};
@@ -15,14 +17,14 @@ use tone::Waveform;
 use voice::{Started, Voice, VoiceSource};
 
 // A play request.
-#[derive(Drop)]
+#[derive(Clone, Copy)]
 pub struct Request {
     pub id: u16,
     pub adsr: AdsrSpec,
     pub priority: u8,
 }
 
-#[derive(Drop)]
+#[derive(Clone, Copy)]
 pub enum EntryStart {
     Voice(Voice),
     Refused(AudioError),

@@ -8,7 +8,7 @@ pub const ONE_SHOT: u8 = 1 << 1;
 
 pub const SIGNED: u8 = 1 << 2;
 
-#[derive(Drop)]
+#[derive(Clone, Copy)]
 pub struct Bits {
     pub looped: u8,
     pub one_shot: u8,

@@ -1,10 +1,12 @@
 // The kinds of effect, by the byte that a bank's entry holds.
+#![tactic(auto)]
+
 ghost use Rattle.std.specs.Prelude.{◌≡◌};
 ghost use Rattle.tier.specs.Kinds.{kind_of, byte_of};
 
 pub mod flags;
 
-#[derive(Drop)]
+#[derive(Clone, Copy)]
 pub enum EffectKind {
     Tone,
     Wavetable,
@@ -15,7 +17,7 @@ pub enum EffectKind {
 }
 
 // What a kind byte stands for.
-#[derive(Drop)]
+#[derive(Clone, Copy)]
 pub enum KindRead {
     Kind(EffectKind),
     Unknown,

@@ -1,5 +1,5 @@
 -- Laws of the tone's definitions. Assumes nothing.
-use Rattle.std.proofs.Common.{◌≡◌, ℕ, ◌*◌, ◌<◌, ◌≤◌, Bool, cond, eqb, refl, mod-eq_of_lt, mul-le-mul, arith, w8, SFits, ne_eqb}
+use Rattle.std.proofs.Common.{◌≡◌, ℕ, ◌*◌, ◌<◌, ◌≤◌, Bool, cond, eqb, refl, arith, w8, SFits, ne_eqb}
 use Rattle.laws.proofs.Signed.{sub-fits}
 use Rattle.laws.specs.Durations.{samples_of}
 use Rattle.laws.proofs.Durations.{samples-wrapped}

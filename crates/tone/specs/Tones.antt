@@ -1,5 +1,5 @@
 -- The tone: its waveforms at an index, and what each call makes of the oscillator. Assumes nothing.
-use Rattle.std.specs.Prelude.{ℕ, ◌+◌, ◌-◌, ◌*◌, ◌/◌, ◌%◌, ◌^◌, Bool, true, false, cond, ℤ, pos, ◌-ℤ◌, neg_ℤ, ◌==◌, nat_lt}
+use Rattle.std.specs.Prelude.{ℕ, ◌+◌, ◌-◌, ◌*◌, ◌/◌, ◌%◌, ◌^◌, true, false, cond, ℤ, pos, ◌-ℤ◌, neg_ℤ, ◌==◌, nat_lt}
 use Rattle.fixed.specs.Fixed.{increment, index_of, sine}
 use Rattle.fixed.specs.declared.Given.TheVariants as G
 use Rattle.tone.specs.Duration.{duration_of, less_one}

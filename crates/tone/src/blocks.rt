@@ -6,7 +6,7 @@ ghost use Rattle.tone.specs.declared.Waveform.TheVariants as W;
 use super::{ToneVoice, Waveform};
 
 // The oscillator after a block's requests, and how many of them, the first ones, gave a sample.
-#[derive(Drop)]
+#[derive(Clone, Copy)]
 pub struct ToneFilled {
     pub voice: ToneVoice,
     pub given: usize,

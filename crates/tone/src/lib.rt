@@ -1,4 +1,6 @@
 // Tone oscillator: a 32-bit phase that wraps, three waveforms, and a count of samples that may end it.
+#![tactic(auto)]
+
 ghost use Rattle.std.specs.Prelude.{◌≡◌, ◌<◌, ◌≤◌};
 ghost use Rattle.tone.specs.Duration.{duration_of, less_one};
 ghost use Rattle.tone.specs.Tones.{ramp, triangle, wave, silent_tone, started_tone, stopped_tone, carrier_of, stepped_tone};
@@ -10,14 +12,14 @@ mod blocks;
 
 pub use blocks::{ToneFilled, block_len, given_of, less};
 
-#[derive(Drop)]
+#[derive(Clone, Copy)]
 pub enum Waveform {
     Square,
     Sine,
     Triangle,
 }
 
-#[derive(Drop)]
+#[derive(Clone, Copy)]
 pub struct ToneParams {
     pub freq_hz: u32,
     pub duration_ms: u16,
@@ -25,7 +27,7 @@ pub struct ToneParams {
     pub adsr: AdsrSpec,
 }
 
-#[derive(Drop)]
+#[derive(Clone, Copy)]
 pub struct ToneVoice {
     pub phase: Phase,
     pub phase_inc: u32,
@@ -35,7 +37,7 @@ pub struct ToneVoice {
 }
 
 // What a request for a sample gives, and the oscillator after it.
-#[derive(Drop)]
+#[derive(Clone, Copy)]
 pub struct ToneStep {
     pub voice: ToneVoice,
     pub given: Given,

@@ -1,5 +1,5 @@
 -- "a choice of idle, tone, PolyBLEP with its float phase, or FM". Assumes nothing.
-use Rattle.std.specs.Prelude.{ℕ, Bool, true, false, cond, eqb}
+use Rattle.std.specs.Prelude.{ℕ, Bool, false, cond, eqb}
 use Rattle.envelope.specs.Adsrs.{click_spec}
 use Rattle.error.specs.Numbers.{number_of}
 use Rattle.error.specs.Told.{Told, value, refused}

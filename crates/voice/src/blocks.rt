@@ -11,14 +11,14 @@ use super::{Voice, VoiceSource};
 use envelope::Adsr;
 
 // A source after a block's requests, and how many of them, the first ones, gave a sample.
-#[derive(Drop)]
+#[derive(Clone, Copy)]
 pub struct SourceFilled {
     pub source: VoiceSource,
     pub given: usize,
 }
 
 // A voice after a block's frames, and in how many of them, the first ones, it gave a sample.
-#[derive(Drop)]
+#[derive(Clone, Copy)]
 pub struct VoiceRun {
     pub voice: Voice,
     pub given: usize,

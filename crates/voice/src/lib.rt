@@ -1,4 +1,6 @@
 // One voice of the mixer: a source, an envelope, a gain, a priority and a pan.
+#![tactic(auto)]
+
 ghost use Rattle.std.specs.Prelude.{◌≡◌};
 ghost use Rattle.laws.specs.Made.{Made};
 ghost use Rattle.voice.specs.Voices.{Valid, ValidVoiceStep, ValidStereoStep, silent_voice, with_gain, with_pan, triggered_voice, released_voice, stopped_voice, audible, ticked_voice, stepped_voice, stereo_step};
@@ -12,7 +14,7 @@ mod source;
 pub use blocks::VoiceRun;
 pub use source::{Carrier, SourceStep, Started, VoiceSource};
 
-#[derive(Drop)]
+#[derive(Clone, Copy)]
 pub struct Voice {
     pub source: VoiceSource,
     pub adsr: Adsr,
@@ -22,20 +24,20 @@ pub struct Voice {
     pub sample_rate_hz: u32,
 }
 
-#[derive(Drop)]
+#[derive(Clone, Copy)]
 pub struct VoiceStep {
     pub voice: Voice,
     pub given: Given,
 }
 
 // The source's `Option<(i8, i8)>`.
-#[derive(Drop)]
+#[derive(Clone, Copy)]
 pub enum StereoGiven {
     Pair(i8, i8),
     None,
 }
 
-#[derive(Drop)]
+#[derive(Clone, Copy)]
 pub struct StereoStep {
     pub voice: Voice,
     pub given: StereoGiven,

@@ -12,7 +12,7 @@ use polyblep::{PolyBlepVoice, PolyBlepWaveform};
 use tier::EffectKind;
 use tone::{ToneParams, ToneVoice, Waveform};
 
-#[derive(Drop)]
+#[derive(Clone, Copy)]
 pub enum VoiceSource {
     Idle,
     Tone(ToneVoice),
@@ -21,21 +21,21 @@ pub enum VoiceSource {
 }
 
 // The source's `Option<u32>`: the Hz of a source that has a carrier.
-#[derive(Drop)]
+#[derive(Clone, Copy)]
 pub enum Carrier {
     Hz(u32),
     None,
 }
 
 // What a request for a sample gives, and the source after it.
-#[derive(Drop)]
+#[derive(Clone, Copy)]
 pub struct SourceStep {
     pub source: VoiceSource,
     pub given: Given,
 }
 
 // What an entry starts, or why it does not.
-#[derive(Drop)]
+#[derive(Clone, Copy)]
 pub enum Started {
     Source(VoiceSource),
     Refused(AudioError),

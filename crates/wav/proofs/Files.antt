@@ -1,11 +1,11 @@
 -- What a reader finds in a file. Assumes nothing.
-use mathlib.Core.Path.{◌≡◌, refl, ap, ◌∙◌}
+use mathlib.Core.Path.{◌≡◌, refl, ◌∙◌}
 use mathlib.Core.Bool.{Bool, true, false, ◌&&◌}
-use mathlib.Core.List.{List, [], ◌∷◌, ◌++◌}
+use mathlib.Core.List.{List, [], ◌∷◌}
 use Prim.Native.Nat.{ℕ, zero, suc, ◌+◌, ◌*◌, ◌/◌, ◌^◌, ◌<◌}
 use native.Mathlib.Omega.{arith}
 use lib.IntN.{ℤ}
-use lib.ListN.{length, length-append}
+use lib.ListN.{length}
 use mir.Syntax.{w16}
 use mir.Val.{of_z, SFits}
 use mir.ValLaws.{to_z-of_z, of_z_fits}
@@ -15,7 +15,7 @@ use Rattle.laws.proofs.Bools.{never}
 use Rattle.laws.specs.Lists.{All}
 use Rattle.wav.specs.Wav.{little, wav_header, wav_fits, cell_bytes}
 use Rattle.wav.specs.File.{number_in, cells_in, wav_file, Reads}
-use Rattle.wav.proofs.Bytes.{length-little, length-cells}
+use Rattle.wav.proofs.Bytes.{length-cells}
 
 pub number-back : (k n : ℕ) → n < 256 ^ k → number_in (little k n) ≡ n
 unfolding number_in little

@@ -1,4 +1,6 @@
 // The layout of a sound file: RIFF/WAVE, PCM, two channels, 16 bits, little-endian.
+#![tactic(auto)]
+
 ghost use Rattle.std.specs.Prelude.{◌≡◌, ◌+◌, ◌≤◌, min, length};
 ghost use Rattle.std.proofs.lemmas.List.Edits.{sets};
 ghost use Rattle.wav.specs.Wav.{little, header_of, cell_bytes, fitting, Laid};
@@ -6,7 +8,7 @@ ghost use Rattle.wav.specs.Wav.{little, header_of, cell_bytes, fitting, Laid};
 use hex_digits::unsigned16;
 
 // The first bytes of a file, all 0 where a size does not fit.
-#[derive(Drop)]
+#[derive(Clone, Copy)]
 pub struct FileHeader {
     pub fits: bool,
     pub bytes: [u8; 44],

@@ -1,0 +1,23 @@
+-- A free voice, else by the policy. Assumes nothing.
+use mathlib.Core.Path.{sym, ap, ◌∙◌}
+use Rattle.allocate.specs.Allocation.{told_place}
+use Rattle.allocate.proofs.Choice.{allocated-free, allocated-taken, allocated-none}
+use Rattle.allocate.proofs.allocate_voice.Goals as goal
+
+pub first_free-free-requires : goal.first_free-free-requires
+first_free-free-requires c = c.requires.few
+
+pub first_lowest-requires : goal.first_lowest-requires
+first_lowest-requires c = c.requires.few
+
+pub returns-in-Voice : goal.returns-in-Voice
+returns-in-Voice c = sym (allocated-free c.args.m c.args.priority _ (sym c.first_free-free.ensures ∙ ap told_place c.in-Voice.is))
+
+pub returns-in-FreeChannelOnly : goal.returns-in-FreeChannelOnly
+returns-in-FreeChannelOnly c =
+    sym (allocated-none c.args.m c.args.priority (sym c.first_free-free.ensures ∙ ap told_place c.in-None.is) c.in-FreeChannelOnly.is)
+
+pub returns-in-LowestPriorityOldest : goal.returns-in-LowestPriorityOldest
+returns-in-LowestPriorityOldest c =
+    c.first_lowest.ensures
+    ∙ sym (allocated-taken c.args.m c.args.priority (sym c.first_free-free.ensures ∙ ap told_place c.in-None.is) c.in-LowestPriorityOldest.is)

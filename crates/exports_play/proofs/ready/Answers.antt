@@ -1,0 +1,16 @@
+-- `exports_play::ready` meets its contract: what opening gives, or what setting the bank then gives.
+use mathlib.Core.Path.{ap, ◌∙◌}
+use Rattle.exports_parts.proofs.Ready.{opening-refused, opening-done}
+use Rattle.exports_play.specs.Plays.{told, calls}
+use Rattle.exports_play.proofs.ready.Goals as goal
+
+pub returns-in-Refused : goal.returns-in-Refused
+returns-in-Refused c =
+    let o = rw c.policy_of-policy.ensures at c.open-opened.ensures.same in
+    record { same = opening-refused calls _ _ _ _ _ _ _ (ap told o) c.in-Refused.is; valid = c.open-opened.ensures.valid }
+
+pub returns-in-Done : goal.returns-in-Done
+returns-in-Done c =
+    let o = rw c.policy_of-policy.ensures at c.open-opened.ensures.same in
+    let b = c.set_bank.ensures in
+    record { same = ap told b.same ∙ opening-done calls _ _ _ _ _ _ _ (ap told o) c.in-Done.is; valid = b.valid }

@@ -1,0 +1,15 @@
+-- `exports_replay::put::bytes` meets its contract: what is left to store is what there was. The measure is what is left of the bytes.
+use mathlib.Core.Path.{◌≡◌, refl, ◌∙◌}
+use Prim.Native.Nat.{◌-◌, ◌≤◌}
+use native.Mathlib.Omega.{arith}
+use borrow.Author.Tests.{ltb-true, ltb-false}
+use lib.ListN.{length, drop, length-set}
+use lib.Seq.{sets}
+use Rattle.exports_replay.proofs.Room.{put-turn, put_all, put_full}
+use Rattle.exports_replay.proofs.put.bytes.Given as goal
+
+abbrev pub invariant-loop-i : goal.invariant-loop-i
+invariant-loop-i l = (sets l.out l.k (drop l.i l.from) ≡ sets l.initial.out l.at l.from) × (length l.out ≡ length l.initial.out) × (l.i ≤ length l.from)
+
+abbrev pub decreases-loop-i : goal.decreases-loop-i
+decreases-loop-i l = length l.from - l.i

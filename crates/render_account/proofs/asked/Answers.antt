@@ -1,0 +1,14 @@
+-- `render_account::asked` meets its contract: the test is the definition's.
+use mathlib.Core.Path.{sym}
+use borrow.Author.Tests.{eq-eqb, ne_eqb}
+use Rattle.render_texts.proofs.Laws.{then, joined}
+use Rattle.render_account.specs.Account.{ask_text}
+use Rattle.render_account.proofs.asked.Goals as goal
+
+pub returns-then-number-eq0 : goal.returns-then-number-eq0
+unfolding ask_text
+returns-then-number-eq0 c = rw (sym c.byte_at-number.ensures, eq-eqb _ _ c.if-number-eq0.true) (c.empty.ensures)
+
+pub returns : goal.returns
+unfolding ask_text
+returns c = rw (sym c.byte_at-number.ensures, ne_eqb _ _ c.if-number-eq0.false) (then (then c.at_time.ensures (joined c.say.ensures c.count.ensures)) c.ended.ensures)

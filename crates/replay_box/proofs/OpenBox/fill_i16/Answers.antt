@@ -1,0 +1,12 @@
+-- The frames of the box that is open. Assumes nothing.
+use borrow.Author.Rules.{rules}
+use Rattle.buffers.specs.Buffers.{to_i16}
+use Rattle.replay_box.proofs.Along.{shape-sounder, shape-engine}
+use Rattle.replay_box.proofs.OpenBox.fill_i16.Goals as goal
+
+pub returns-then-self : goal.returns-then-self
+returns-then-self c = shape-sounder c.args.bytes.now c.args.self c.requires to_i16 c.args.shape c.if-self.true c.fill_i16-f.ensures
+
+pub returns : goal.returns
+returns c =
+    shape-engine c.args.bytes.now c.args.self c.requires to_i16 c.args.shape c.if-self.false c.fill_i16-f-2.ensures

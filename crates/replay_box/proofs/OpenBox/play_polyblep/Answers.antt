@@ -1,0 +1,15 @@
+-- What the call of the box that is open promises. Assumes nothing.
+use borrow.Author.Rules.{rules}
+use Rattle.replay_box.specs.Boxes.{poly_bleped, with_sounder, with_engine}
+use Rattle.replay_box.proofs.Either.{keeps-sounder, keeps-engine, made_by}
+use Rattle.replay_box.proofs.OpenBox.play_polyblep.Goals as goal
+
+pub returns-then-self : goal.returns-then-self
+unfolding poly_bleped
+returns-then-self c =
+    made_by (with_sounder c.args.self) c.play_polyblep-sounder.ensures (keeps-sounder c.requires) (rw c.if-self.true)
+
+pub returns : goal.returns
+unfolding poly_bleped
+returns c =
+    made_by (with_engine c.args.self) c.play_polyblep-engine.ensures (keeps-engine c.requires) (rw c.if-self.false)

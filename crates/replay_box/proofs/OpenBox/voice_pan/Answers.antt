@@ -1,0 +1,12 @@
+-- What the box that is open tells. Assumes nothing.
+use borrow.Author.Rules.{rules}
+use Rattle.replay_box.specs.Boxes.{mixer_of}
+use Rattle.replay_box.proofs.OpenBox.voice_pan.Goals as goal
+
+pub returns-then-self : goal.returns-then-self
+unfolding mixer_of
+returns-then-self c = rw c.if-self.true c.voice_pan.ensures
+
+pub returns : goal.returns
+unfolding mixer_of
+returns c = rw c.if-self.false c.voice_pan-2.ensures

@@ -1,0 +1,12 @@
+-- `replay_calls::play_call` meets its contract: what the box promises, with the fields of the line.
+use borrow.Author.Rules.{rules}
+use mathlib.Core.Path.{sym}
+use Rattle.replay_calls.specs.Calls.{play_call}
+use Rattle.replay_calls.proofs.Calling.{started}
+use Rattle.replay_calls.proofs.play_call.Goals as goal
+
+pub returns : goal.returns
+unfolding play_call
+returns c =
+    rw (sym c.byte_at.ensures, sym c.wide_at.ensures, sym c.spec_at-adsr.ensures)
+    (started c.play_with_priority-p.ensures c.play_reply.ensures)

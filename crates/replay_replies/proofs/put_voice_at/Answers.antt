@@ -1,0 +1,22 @@
+-- `replay_replies::put_voice_at` meets its contract: the voice's fields and the line's end, or the line's end alone.
+use borrow.Author.Rules.{rules}
+use mathlib.Core.Path.{sym, ◌∙◌}
+use native.Mathlib.Omega.{arith}
+use Rattle.hex_digits.proofs.Texts.{then, whole}
+use Rattle.replay_box.specs.Boxes.{mixer_of}
+use Rattle.replay_box.proofs.Laws.{valid-mixer}
+use Rattle.replay_replies.proofs.Payload.{read-valid}
+use Rattle.replay_replies.proofs.put_voice_at.Goals as goal
+
+pub put_voice-end-requires : goal.put_voice-end-requires
+put_voice-end-requires c = read-valid (mixer_of c.args.e) c.args.i (valid-mixer c.requires) (sym c.voice-read.ensures ∙ c.in-Voice.is)
+
+pub returns-in-Voice : goal.returns-in-Voice
+returns-in-Voice c =
+    rw (sym c.voice-read.ensures, c.in-Voice.is)
+    (whole (then c.put_voice-end.ensures.0 c.end_line.ensures.0) (omega (arith, c.put_voice-end.ensures.1, c.end_line.ensures.1)))
+
+pub returns-in-None : goal.returns-in-None
+returns-in-None c =
+    rw (sym c.voice-read.ensures, c.in-None.is)
+    (whole c.end_line-in-None.ensures.0 (omega (arith, c.end_line-in-None.ensures.1)))

@@ -1,0 +1,5 @@
+-- Case by case. Assumes nothing.
+use Rattle.sounder.proofs.starts.fade_marks.Goals as goal
+
+pub returns-in-Done : goal.returns-in-Done
+returns-in-Done c = rw (c.in-Done.is, c.started-started.ensures)

@@ -1,4 +1,4 @@
-//! Links the library of document 01's box, which `rt staticlib exports_engine` makes; the crate for Rust links the others.
+//! Links the library of document 01's box, which `tools/archives exports_engine` makes; the crate for Rust links the others.
 
 fn main() {
     let lib = concat!(env!("CARGO_MANIFEST_DIR"), "/../target/staticlib");

@@ -1,4 +1,4 @@
-//! Links the port's three static libraries, which `rt staticlib` makes of `exports`, `exports_play` and `exports_replay`.
+//! Links the port's three static libraries `exports`, `exports_play` and `exports_replay`, which `tools/archives` makes.
 
 fn main() {
     let lib = concat!(env!("CARGO_MANIFEST_DIR"), "/../../target/staticlib");

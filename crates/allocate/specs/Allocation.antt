@@ -1,5 +1,6 @@
 -- Document 01, `allocate_voice`, in the engine's types, and the same by document 02. Assumes nothing.
 use Rattle.std.specs.Prelude.{ℕ, Bool, true, false, List, [], ◌∷◌}
+use Rattle.std.specs.Prelude as R
 use Rattle.std.proofs.Math.Option.{Option, none, some}
 use Rattle.error.specs.Told.{Told, value, refused}
 use Rattle.ranking.specs.Rule.{lowest_priority, lowest_oldest, free_only}
@@ -10,8 +11,6 @@ use Rattle.voice.specs.declared.Voice.{Voice}
 use Rattle.mixer.specs.declared.Mixer.{Mixer}
 use Rattle.mixer.specs.declared.VoiceStealingPolicy.{VoiceStealingPolicy}
 use Rattle.mixer.specs.declared.VoiceStealingPolicy.TheVariants as P
-use Rattle.allocate.specs.declared.Allocated.{Allocated}
-use Rattle.allocate.specs.declared.Allocated.TheVariants as A
 use Rattle.mixer.specs.Mixers.{voices_of}
 
 abbrev pub priority_of : Voice → ℕ
@@ -22,9 +21,9 @@ abbrev pub place_of : Option ℕ → Told ℕ
 place_of none = refused 5
 place_of (some i) = value i
 
-abbrev pub told_place : Allocated → Told ℕ
-told_place (A.Voice i) = value i
-told_place A.None = refused 5
+abbrev pub told_place : R.Option ℕ → Told ℕ
+told_place (R.Some i) = value i
+told_place R.None = refused 5
 
 -- "the first inaudible voice; else, under LowestPriorityOldest, the first voice of lowest priority if that is strictly below the
 -- request; else none. FreeChannelOnly never takes one."

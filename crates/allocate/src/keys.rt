@@ -3,7 +3,6 @@ ghost use Rattle.std.specs.Prelude.{◌≡◌, min, ◌<◌, length, take, true,
 ghost use Rattle.allocate.specs.Allocation.{told_place};
 ghost use Rattle.allocate.specs.Keys.{age_of, key_of, keys_of, rank_in, bound_of, lowest_key, limit_of, lowered, moved_keys, sounding_after, rekeyed};
 
-use crate::Allocated;
 use marks::Mark;
 use mixer::VoiceStealingPolicy;
 use voice::Voice;
@@ -61,17 +60,17 @@ fn fewer(n: usize, len: usize) -> usize
     if n < len { n } else { len }
 }
 
-pub fn lowest(keys: &[u16], n: usize, bound: u16) -> Allocated
+pub fn lowest(keys: &[u16], n: usize, bound: u16) -> Option<usize>
     ensures { told_place result ≡ lowest_key (take n keys.now) bound }
 {
     let end = fewer(n, keys.len());
-    let mut best = Allocated::None;
+    let mut best = None;
     let mut low = bound;
     for i in 0..end {
         let r = keys[i];
         if r < low {
             low = r;
-            best = Allocated::Voice(i);
+            best = Some(i);
         }
     }
     best

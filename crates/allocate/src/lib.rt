@@ -14,42 +14,36 @@ use voice::Voice;
 
 pub mod keys;
 
-#[derive(Clone, Copy)]
-pub enum Allocated {
-    Voice(usize),
-    None,
-}
-
-fn first_free(voices: [Voice; 16], n: usize) -> Allocated
+fn first_free(voices: [Voice; 16], n: usize) -> Option<usize>
     requires { n ≤ 16 }
     ensures { told_place result ≡ place_of (first_free audible (take n voices)) }
 {
     for i in 0..n {
         let v = voices[i];
         if !v.is_audible() {
-            return Allocated::Voice(i);
+            return Some(i);
         }
     }
-    Allocated::None
+    None
 }
 
-fn first_lowest(voices: [Voice; 16], n: usize, priority: u8) -> Allocated
+fn first_lowest(voices: [Voice; 16], n: usize, priority: u8) -> Option<usize>
     requires { n ≤ 16 }
     ensures { told_place result ≡ place_of (first_lowest priority_of (take n voices) priority) }
 {
-    let mut best = Allocated::None;
+    let mut best = None;
     let mut lowest = priority;
     for i in 0..n {
         let v = voices[i];
         if v.priority < lowest {
             lowest = v.priority;
-            best = Allocated::Voice(i);
+            best = Some(i);
         }
     }
     best
 }
 
-pub fn allocate_voice(m: Mixer, priority: u8) -> Allocated
+pub fn allocate_voice(m: Mixer, priority: u8) -> Option<usize>
     requires { Valid m }
     ensures { told_place result ≡ allocated m priority }
 {
@@ -58,16 +52,16 @@ pub fn allocate_voice(m: Mixer, priority: u8) -> Allocated
     let free = first_free(voices, n);
     let policy = m.stealing_policy;
     match free {
-        Allocated::Voice(i) => Allocated::Voice(i),
-        Allocated::None => match policy {
-            VoiceStealingPolicy::FreeChannelOnly => Allocated::None,
+        Some(i) => Some(i),
+        None => match policy {
+            VoiceStealingPolicy::FreeChannelOnly => None,
             VoiceStealingPolicy::LowestPriorityOldest => first_lowest(voices, n, priority),
         },
     }
 }
 
 // By the present rules: of voices of equal lowest priority the oldest.
-pub fn allocate_oldest(p: Present, priority: u8) -> Allocated
+pub fn allocate_oldest(p: Present, priority: u8) -> Option<usize>
     requires { K.Valid p }
     ensures { told_place result ≡ allocated_oldest p priority }
 {

@@ -10,7 +10,7 @@ use lib.Dec.{eqb, ltb}
 use lib.ListN.{length}
 use Rattle.error.specs.Told.{Told, value, refused}
 use Rattle.bank.specs.declared.SoundBank.{SoundBank}
-use Rattle.bank.specs.declared.BankSet.TheVariants as S
+use Rattle.std.specs.Prelude.{Some}
 use Rattle.bank.specs.declared.EffectEntry.{EffectEntry}
 use Rattle.bank.specs.Entries.{id_at, kind_byte, entry_at}
 use Rattle.bank.specs.Search.{halving, count_from, up_to, decided, found_in, found_given}
@@ -211,5 +211,5 @@ pub found-rising : (bytes : List ℕ) (count : ℕ) → ((i : ℕ) → i < count
 found-rising bytes count k r j h = found-distinct bytes count k (rising-distinct bytes count r) j h
 
 -- `find_by_id` gives what these laws speak of, for a bank that was set and as many bytes
-pub found-lent : (b : SoundBank) (bytes : List ℕ) (id : ℕ) → length bytes ≡ b.len → found_given (S.Bank b) bytes id ≡ found_in bytes b.effect_count id
+pub found-lent : (b : SoundBank) (bytes : List ℕ) (id : ℕ) → length bytes ≡ b.len → found_given (Some b) bytes id ≡ found_in bytes b.effect_count id
 found-lent b bytes id e = rw (lent_same b (length bytes) e)

@@ -10,8 +10,7 @@ use lib.ListN.{length, take, drop, length-drop}
 use lib.Seq.{length-take-le}
 use Rattle.error.specs.Told.{Told, value, refused, and_then, passed, ValidTold}
 use Rattle.bank.specs.declared.SoundBank.{SoundBank}
-use Rattle.bank.specs.declared.BankSet.{BankSet}
-use Rattle.bank.specs.declared.BankSet.TheVariants as S
+use Rattle.std.specs.Prelude.{Option, Some, None}
 use Rattle.bank.specs.Entries.{place_of}
 use Rattle.bank.specs.Banks.{Valid, ValidBank, bank_of, lent_bank, nowhere, at_offset, at_length, fails_in, payload_number, payload_under, payload_given, payload_part}
 
@@ -32,15 +31,15 @@ new-valid rate count len = by-rate (ltb 65537 rate) refl
     by-rate false h = by_end (ltb-false 65537 rate h) (ltb len (place_of count)) refl
 
 -- the checks in front give the bank that was set where the bytes lent are as many
-pub lent_same : (b : SoundBank) (lent : ℕ) → lent ≡ b.len → lent_bank (S.Bank b) lent ≡ value b
+pub lent_same : (b : SoundBank) (lent : ℕ) → lent ≡ b.len → lent_bank (Some b) lent ≡ value b
 unfolding lent_bank
 lent_same b lent e = rw (eq-eqb lent b.len e)
 
 -- a bank that is given has its entries within the bytes
-pub lent-holds : (bank : BankSet) (b : SoundBank) (lent : ℕ) → ValidBank bank → lent_bank bank lent ≡ value b → place_of b.effect_count ≤ lent
+pub lent_holds : (bank : Option SoundBank) (b : SoundBank) (lent : ℕ) → ValidBank bank → lent_bank bank lent ≡ value b → place_of b.effect_count ≤ lent
 unfolding lent_bank
-lent-holds S.None b lent v e = let z : ◌≡◌ {A = ℕ} 0 1 = cc in omega arith
-lent-holds (S.Bank a) b lent v e = by-test (eqb lent a.len) refl e
+lent_holds None b lent v e = let z : ◌≡◌ {A = ℕ} 0 1 = cc in omega arith
+lent_holds (Some a) b lent v e = by-test (eqb lent a.len) refl e
   where
     by-test : (t : Bool) → eqb lent a.len ≡ t → cond t (value a) (refused 7) ≡ value b → place_of b.effect_count ≤ lent
     by-test true h e =
@@ -50,7 +49,7 @@ lent-holds (S.Bank a) b lent v e = by-test (eqb lent a.len) refl e
     by-test false h e = let z : ◌≡◌ {A = ℕ} 0 1 = cc in omega arith
 
 -- a payload that is whole ends within the bytes
-pub whole-within : (parted : Bool) (bank : BankSet) (bytes : List ℕ) (offset len : ℕ) → payload_under parted bank bytes offset len ≡ passed → offset + len ≤ length bytes
+pub whole-within : (parted : Bool) (bank : Option SoundBank) (bytes : List ℕ) (offset len : ℕ) → payload_under parted bank bytes offset len ≡ passed → offset + len ≤ length bytes
 unfolding payload_under
 whole-within parted bank bytes offset len e = by-bank (lent_bank bank (length bytes)) e
   where
@@ -70,19 +69,19 @@ whole-within parted bank bytes offset len e = by-bank (lent_bank bank (length by
     by-bank (value b) e = by-test (leb (offset + len) size) refl e
 
 -- the part of a payload that is whole: from its offset, of its length
-pub whole_part : (bank : BankSet) (bytes : List ℕ) (offset len : ℕ) → payload_given bank bytes offset len ≡ passed → payload_part bank bytes offset len ≡ take len (drop offset bytes)
+pub whole_part : (bank : Option SoundBank) (bytes : List ℕ) (offset len : ℕ) → payload_given bank bytes offset len ≡ passed → payload_part bank bytes offset len ≡ take len (drop offset bytes)
 whole_part bank bytes offset len e = rw e
 
-pub whole_length : (bank : BankSet) (bytes : List ℕ) (offset len : ℕ) → payload_given bank bytes offset len ≡ passed → length (payload_part bank bytes offset len) ≡ len
+pub whole_length : (bank : Option SoundBank) (bytes : List ℕ) (offset len : ℕ) → payload_given bank bytes offset len ≡ passed → length (payload_part bank bytes offset len) ≡ len
 whole_length bank bytes offset len e =
     let h = whole-within false bank bytes offset len e in
     rw e (length-take-le len (drop offset bytes) (rw length-drop (omega arith)))
 
-pub refused-part : (bank : BankSet) (bytes : List ℕ) (offset len : ℕ) {n : ℕ} → payload_given bank bytes offset len ≡ refused n → payload_part bank bytes offset len ≡ []
+pub refused-part : (bank : Option SoundBank) (bytes : List ℕ) (offset len : ℕ) {n : ℕ} → payload_given bank bytes offset len ≡ refused n → payload_part bank bytes offset len ≡ []
 refused-part bank bytes offset len e = rw e
 
 -- "offset equal to the bank's length with length 0 is accepted"
-pub whole-at-end : (parted : Bool) (bank : BankSet) {b : SoundBank} (bytes : List ℕ) → lent_bank bank (length bytes) ≡ value b
+pub whole-at-end : (parted : Bool) (bank : Option SoundBank) {b : SoundBank} (bytes : List ℕ) → lent_bank bank (length bytes) ≡ value b
     → payload_under parted bank bytes (length bytes) 0 ≡ passed
 unfolding payload_under
 whole-at-end parted bank bytes e = rw (e, le-leb (length bytes + 0) (length bytes) (omega arith))

@@ -10,8 +10,8 @@ use lib.Dec.{eqb, ltb}
 use lib.ListN.{length}
 use Rattle.error.specs.Told.{value, refused, and_then, value_in}
 use Rattle.error.proofs.Told.{then-value, not-refused}
-use Rattle.bank.specs.declared.BankSet.{BankSet}
-use Rattle.bank.specs.declared.BankSet.TheVariants as S
+use Rattle.std.specs.Prelude.{Option, Some, None}
+use Rattle.bank.specs.declared.SoundBank.{SoundBank}
 use Rattle.bank.specs.Banks.{lent_bank, Fails, nowhere, at_offset, at_length, fails_in, payload_number, payload_under, payload_given}
 
 -- "offset beyond the bank"
@@ -27,7 +27,7 @@ number-value a b nowhere = refl
 number-value a b at_offset = refl
 number-value a b at_length = refl
 
-module _ (bank : BankSet) (bytes : List ℕ) (offset len : ℕ) where
+module _ (bank : Option SoundBank) (bytes : List ℕ) (offset len : ℕ) where
   -- the rules differ in numbers alone
   pub payload-value : (a b : Bool) → value_in (payload_under a bank bytes offset len) ≡ value_in (payload_under b bank bytes offset len)
   unfolding payload_under
@@ -44,11 +44,11 @@ fails-new n h nowhere e = cc
 fails-new n h at_offset e = refl
 fails-new n h at_length e = refl
 
-pub gives-way : (bank : BankSet) (bytes : List ℕ) (offset len : ℕ) → payload_given bank bytes offset len ≡ refused 4
+pub gives-way : (bank : Option SoundBank) (bytes : List ℕ) (offset len : ℕ) → payload_given bank bytes offset len ≡ refused 4
     → (payload_under true bank bytes offset len ≡ refused 15) ⊎ (payload_under true bank bytes offset len ≡ refused 16)
 unfolding payload_under lent_bank
-gives-way S.None bytes offset len e = let z : ◌≡◌ {A = ℕ} 6 4 = cc in absurd (omega arith)
-gives-way (S.Bank b) bytes offset len e = by-test (eqb (length bytes) b.len) e
+gives-way None bytes offset len e = let z : ◌≡◌ {A = ℕ} 6 4 = cc in absurd (omega arith)
+gives-way (Some b) bytes offset len e = by-test (eqb (length bytes) b.len) e
   where
     f : Fails
     f = fails_in (length bytes) offset len
@@ -58,11 +58,11 @@ gives-way (S.Bank b) bytes offset len e = by-test (eqb (length bytes) b.len) e
     by-test true e = fails-old f e
     by-test false e = let z : ◌≡◌ {A = ℕ} 7 4 = cc in absurd (omega arith)
 
-pub gave-way : (bank : BankSet) (bytes : List ℕ) (offset len n : ℕ) → 15 ≤ n → payload_under true bank bytes offset len ≡ refused n
+pub gave-way : (bank : Option SoundBank) (bytes : List ℕ) (offset len n : ℕ) → 15 ≤ n → payload_under true bank bytes offset len ≡ refused n
     → payload_given bank bytes offset len ≡ refused 4
 unfolding payload_under lent_bank
-gave-way S.None bytes offset len n h e = let z : ◌≡◌ {A = ℕ} 6 n = cc in absurd (omega arith)
-gave-way (S.Bank b) bytes offset len n h e = by-test (eqb (length bytes) b.len) e
+gave-way None bytes offset len n h e = let z : ◌≡◌ {A = ℕ} 6 n = cc in absurd (omega arith)
+gave-way (Some b) bytes offset len n h e = by-test (eqb (length bytes) b.len) e
   where
     f : Fails
     f = fails_in (length bytes) offset len

@@ -8,19 +8,17 @@ use native.Mathlib.Numerals.{add-one}
 use native.Mathlib.Omega.{arith}
 use borrow.Author.Tests.{eq-eqb, ne_eqb, lt-ltb, le-ltb}
 use lib.Dec.{ltb}
-use Rattle.error.specs.Told.{Told, value, refused}
+use Rattle.error.specs.Told.{value, refused}
 use Rattle.tier.specs.declared.EffectKind.{EffectKind}
-use Rattle.tier.specs.declared.KindRead.TheVariants.{Kind, Unknown}
 use Rattle.tier.specs.Kinds.{kind_of}
 use Rattle.bank.specs.declared.EffectEntry.{EffectEntry}
 use Rattle.bank.specs.Entries.{id_at, kind_byte, fields_at, entry_at}
 use Rattle.bank.specs.Search.{halving, count_from, up_to, decided, found_in}
-use Rattle.bank.specs.Loops.{settled}
 
 -- a byte up to 5 is a kind, one above is none
 pub record Known (n : ℕ) : Type 0 where
   pub kind : EffectKind
-  pub same : kind_of n ≡ Kind kind
+  pub same : kind_of n ≡ value kind
 
 pub known : (n : ℕ) → n ≤ 5 → Known n
 unfolding kind_of
@@ -32,7 +30,7 @@ known (suc (suc (suc (suc zero)))) h = record { kind = _; same = refl }
 known (suc (suc (suc (suc (suc zero))))) h = record { kind = _; same = refl }
 known (suc (suc (suc (suc (suc (suc n)))))) h = absurd (lt_irrefl 0 (omega arith))
 
-pub unknown : (n : ℕ) → 5 < n → kind_of n ≡ Unknown
+pub unknown : (n : ℕ) → 5 < n → kind_of n ≡ refused 9
 unfolding kind_of
 unknown n h =
     rw (ne_eqb n 0 (λ e. omega arith), ne_eqb n 1 (λ e. omega arith), ne_eqb n 2 (λ e. omega arith), ne_eqb n 3 (λ e. omega arith), ne_eqb n 4 (λ e. omega arith), ne_eqb n 5 (λ e. omega arith))
@@ -67,12 +65,6 @@ module _ (bytes : List ℕ) (id i : ℕ) (rest : List ℕ) where
   unfolding decided
   decided-on h n = let r = entry_known bytes i h in rw (r.same, ne_eqb r.entry.id id (λ e. n (sym r.its-id ∙ e)))
 
-settled_at : (bytes : List ℕ) (count i : ℕ) (others : Told EffectEntry) → i < count → settled bytes count i others ≡ entry_at bytes i
-settled_at bytes count i others h = rw (lt-ltb i count h)
-
-settled-past : (bytes : List ℕ) (count : ℕ) (others : Told EffectEntry) → settled bytes count count others ≡ others
-settled-past bytes count others = rw (le-ltb count count (omega arith))
-
 -- any fuel of at least size gives the same places
 enough : (bytes : List ℕ) (id j k low size : ℕ) → size ≤ j → size ≤ k → halving bytes id j low size ≡ halving bytes id k low size
 unfolding halving
@@ -101,13 +93,11 @@ turn bytes id low zero h = absurd (lt_irrefl 0 h)
 turn bytes id low (suc n) h = let e : suc n - 1 ≡ n = omega arith in rw e
 
 module _ (bytes : List ℕ) (count id low size : ℕ) (more : 0 < size) (inv : Halving bytes count id low size) where
-  pub halving-bad : (others : Told EffectEntry) → 5 < kind_byte bytes (low + (size - 1) / 2) → found_in bytes count id ≡ settled bytes count (low + (size - 1) / 2) others
-  halving-bad others h =
-      sym inv.same ∙ rw (turn bytes id low size more) (decided-bad bytes id (low + (size - 1) / 2) _ h) ∙ sym (settled_at bytes count (low + (size - 1) / 2) others (omega arith))
+  pub halving-bad : 5 < kind_byte bytes (low + (size - 1) / 2) → found_in bytes count id ≡ entry_at bytes (low + (size - 1) / 2)
+  halving-bad h = sym inv.same ∙ rw (turn bytes id low size more) (decided-bad bytes id (low + (size - 1) / 2) _ h)
 
-  pub halving-hit : (others : Told EffectEntry) → kind_byte bytes (low + (size - 1) / 2) ≤ 5 → id_at bytes (low + (size - 1) / 2) ≡ id → found_in bytes count id ≡ settled bytes count (low + (size - 1) / 2) others
-  halving-hit others h e =
-      sym inv.same ∙ rw (turn bytes id low size more) (decided-hit bytes id (low + (size - 1) / 2) _ h e) ∙ sym (settled_at bytes count (low + (size - 1) / 2) others (omega arith))
+  pub halving-hit : kind_byte bytes (low + (size - 1) / 2) ≤ 5 → id_at bytes (low + (size - 1) / 2) ≡ id → found_in bytes count id ≡ entry_at bytes (low + (size - 1) / 2)
+  halving-hit h e = sym inv.same ∙ rw (turn bytes id low size more) (decided-hit bytes id (low + (size - 1) / 2) _ h e)
 
   pub halving-right : kind_byte bytes (low + (size - 1) / 2) ≤ 5 → id_at bytes (low + (size - 1) / 2) < id → Halving bytes count id (low + (size - 1) / 2 + 1) (size - 1 - (size - 1) / 2)
   halving-right h l =
@@ -130,9 +120,12 @@ module _ (bytes : List ℕ) (count id low size : ℕ) (more : 0 < size) (inv : H
             (sym (decided-on bytes id mid _ h n) ∙ rw (turn bytes id low size more, le-ltb (id_at bytes mid) id l) at inv.same);
       }
 
-pub halving-end : (bytes : List ℕ) (count id low : ℕ) → Halving bytes count id low 0 → found_in bytes count id ≡ settled bytes count count (decided bytes id (up_to count))
+pub halving-end : (bytes : List ℕ) (count id low size : ℕ) → size ≤ 0 → Halving bytes count id low size → found_in bytes count id ≡ decided bytes id (up_to count)
 unfolding halving
-halving-end bytes count id low inv = sym inv.same ∙ sym (settled-past bytes count (decided bytes id (up_to count)))
+halving-end bytes count id low zero h inv = sym inv.same
+halving-end bytes count id low (suc n) h inv = absurd (lt_irrefl 0 (omega arith))
+
+pub ruleset halving_steps = (halving-start, halving-bad, halving-hit, halving-right, halving-left, halving-end)
 
 -- The scan: the entries left answer for all.
 pub record Scanning (bytes : List ℕ) (count id i : ℕ) : Type 0 where
@@ -147,13 +140,11 @@ unfolding count_from
 next i count h = let e : count - i ≡ suc (count - (i + 1)) = omega arith in rw (e, add-one i)
 
 module _ (bytes : List ℕ) (count id i : ℕ) (more : i < count) (inv : Scanning bytes count id i) where
-  pub scanning-bad : (others : Told EffectEntry) → 5 < kind_byte bytes i → decided bytes id (up_to count) ≡ settled bytes count i others
-  scanning-bad others h =
-      sym inv.same ∙ rw (next i count more) (decided-bad bytes id i _ h) ∙ sym (settled_at bytes count i others more)
+  pub scanning-bad : 5 < kind_byte bytes i → decided bytes id (up_to count) ≡ entry_at bytes i
+  scanning-bad h = sym inv.same ∙ rw (next i count more) (decided-bad bytes id i _ h)
 
-  pub scanning-hit : (others : Told EffectEntry) → kind_byte bytes i ≤ 5 → id_at bytes i ≡ id → decided bytes id (up_to count) ≡ settled bytes count i others
-  scanning-hit others h e =
-      sym inv.same ∙ rw (next i count more) (decided-hit bytes id i _ h e) ∙ sym (settled_at bytes count i others more)
+  pub scanning-hit : kind_byte bytes i ≤ 5 → id_at bytes i ≡ id → decided bytes id (up_to count) ≡ entry_at bytes i
+  scanning-hit h e = sym inv.same ∙ rw (next i count more) (decided-hit bytes id i _ h e)
 
   pub scanning-on : kind_byte bytes i ≤ 5 → (id_at bytes i ≡ id → ⊥) → Scanning bytes count id (i + 1)
   scanning-on h n =
@@ -162,8 +153,8 @@ module _ (bytes : List ℕ) (count id i : ℕ) (more : i < count) (inv : Scannin
         same = sym (decided-on bytes id i (count_from (i + 1) (count - (i + 1))) h n) ∙ rw (next i count more) at inv.same;
       }
 
-pub scanning-end : (bytes : List ℕ) (count id i : ℕ) → count ≤ i → Scanning bytes count id i → decided bytes id (up_to count) ≡ settled bytes count count (decided bytes id [])
+pub scanning-end : (bytes : List ℕ) (count id i : ℕ) → count ≤ i → Scanning bytes count id i → decided bytes id (up_to count) ≡ decided bytes id []
 unfolding count_from
-scanning-end bytes count id i h inv =
-    let e : count - i ≡ 0 = omega arith in
-    sym inv.same ∙ rw e (sym (settled-past bytes count (decided bytes id [])))
+scanning-end bytes count id i h inv = let e : count - i ≡ 0 = omega arith in sym inv.same ∙ rw e
+
+pub ruleset scanning_steps = (scanning-start, scanning-bad, scanning-hit, scanning-on, scanning-end)

@@ -1,16 +1,9 @@
 -- Document 01, "Where a call is turned down": the places "Setting a bank", "Bank, for play, fade, entry search and payload lookup"
 -- and "payload lookup". Assumes nothing.
-use Rattle.std.specs.Prelude.{ℕ, ◌+◌, ◌≤◌, Bool, false, cond, List, [], eqb, ltb, leb, length, take, drop}
-use Rattle.error.specs.Numbers.{number_of}
+use Rattle.std.specs.Prelude.{ℕ, ◌+◌, ◌≤◌, Bool, false, cond, List, [], eqb, ltb, leb, length, take, drop, Option, Some, None}
 use Rattle.error.specs.Told.{Told, value, refused, and_then, passed}
 use Rattle.bank.specs.declared.SoundBank.{SoundBank}
-use Rattle.bank.specs.declared.BankSet.{BankSet}
-use Rattle.bank.specs.declared.BankSet.TheVariants as S
-use Rattle.bank.specs.declared.BankRead.{BankRead}
-use Rattle.bank.specs.declared.BankRead.TheVariants as B
 use Rattle.bank.specs.declared.EffectEntry.{EffectEntry}
-use Rattle.bank.specs.declared.PayloadRead.{PayloadRead}
-use Rattle.bank.specs.declared.PayloadRead.TheVariants as P
 use Rattle.bank.specs.Entries.{place_of, entry_at}
 
 -- "Setting a bank": 2 for "its rate above 65,537", then 4 where "10 + 16 × count exceeds its bytes", which are len in number
@@ -21,25 +14,22 @@ bank_of rate count len =
     (value (record { sample_rate_hz = rate; effect_count = count; len = len })))
 
 -- in front of every lookup: 6 for "none set", 7 where the "lent length is not the length set"
-unfoldable pub lent_bank : BankSet → ℕ → Told SoundBank
-lent_bank S.None lent = refused 6
-lent_bank (S.Bank b) lent = cond (eqb lent b.len) (value b) (refused 7)
+unfoldable pub lent_bank : Option SoundBank → ℕ → Told SoundBank
+lent_bank None lent = refused 6
+lent_bank (Some b) lent = cond (eqb lent b.len) (value b) (refused 7)
 
-abbrev pub told_bank : BankRead → Told SoundBank
-told_bank (B.Bank b) = value b
-told_bank (B.Refused e) = refused (number_of e)
-
--- a bank as setting gives it
+-- A bank as setting gives it. No ghost field or model: either would put a proof, or a second record of the same fields, into each
+-- definition that makes a bank (bank_of here, and those of states and of banks written).
 pub record Valid (b : SoundBank) : Type 0 where
   pub rate : b.sample_rate_hz ≤ 65537
   pub holds : place_of b.effect_count ≤ b.len
 
-abbrev pub ValidBank : BankSet → Type 0
-ValidBank S.None = Unit {0}
-ValidBank (S.Bank b) = Valid b
+abbrev pub ValidBank : Option SoundBank → Type 0
+ValidBank None = Unit {0}
+ValidBank (Some b) = Valid b
 
 -- one entry by its index; 8 for an index that is not below the count
-abbrev pub entry_given : BankSet → List ℕ → ℕ → Told EffectEntry
+abbrev pub entry_given : Option SoundBank → List ℕ → ℕ → Told EffectEntry
 entry_given bank bytes index =
     and_then (lent_bank bank (length bytes)) (λ b. cond (ltb index b.effect_count) (entry_at bytes index) (refused 8))
 
@@ -60,22 +50,18 @@ payload_number parted at_offset = refused (cond parted 15 4)
 payload_number parted at_length = refused (cond parted 16 4)
 
 -- "A payload lookup takes an entry's offset and length and gives its number in one call"
-unfoldable pub payload_under : Bool → BankSet → List ℕ → ℕ → ℕ → Told (Unit {0})
+unfoldable pub payload_under : Bool → Option SoundBank → List ℕ → ℕ → ℕ → Told (Unit {0})
 payload_under parted bank bytes offset len =
     and_then (lent_bank bank (length bytes)) (λ b. payload_number parted (fails_in (length bytes) offset len))
 
 -- by document 01
-abbrev pub payload_given : BankSet → List ℕ → ℕ → ℕ → Told (Unit {0})
+abbrev pub payload_given : Option SoundBank → List ℕ → ℕ → ℕ → Told (Unit {0})
 payload_given bank bytes offset len = payload_under false bank bytes offset len
-
-abbrev pub told_payload : PayloadRead → Told (Unit {0})
-told_payload P.Whole = passed
-told_payload (P.Refused e) = refused (number_of e)
 
 -- "and the part in another; refused, that part is empty": "the very part of the lent bank from its offset, of its length"
 abbrev pub part_of : Told (Unit {0}) → List ℕ → ℕ → ℕ → List ℕ
 part_of (value _) bytes offset len = take len (drop offset bytes)
 part_of (refused n) bytes offset len = []
 
-abbrev pub payload_part : BankSet → List ℕ → ℕ → ℕ → List ℕ
+abbrev pub payload_part : Option SoundBank → List ℕ → ℕ → ℕ → List ℕ
 payload_part bank bytes offset len = part_of (payload_given bank bytes offset len) bytes offset len

@@ -1,15 +1,10 @@
 -- Document 01, "Bank": "All multi-byte bank fields are little-endian." "Ten header bytes are not read here. Entry i begins at
 -- 10 + 16i: id (2 bytes), kind, flags, gain, one unread byte, param0 (2), param1 (2), offset (4), length (2)." Assumes nothing.
 use Rattle.std.specs.Prelude.{ℕ, ◌+◌, ◌*◌, List, get_or}
-use Rattle.error.specs.Numbers.{number_of}
-use Rattle.error.specs.Told.{Told, value, refused}
+use Rattle.error.specs.Told.{Told, value, and_then}
 use Rattle.tier.specs.declared.EffectKind.{EffectKind}
-use Rattle.tier.specs.declared.KindRead.{KindRead}
-use Rattle.tier.specs.declared.KindRead.TheVariants.{Kind, Unknown}
 use Rattle.tier.specs.Kinds.{kind_of}
 use Rattle.bank.specs.declared.EffectEntry.{EffectEntry}
-use Rattle.bank.specs.declared.EntryRead.{EntryRead}
-use Rattle.bank.specs.declared.EntryRead.TheVariants as R
 
 -- the byte at place k, and the little-endian numbers of two and four bytes from there
 abbrev pub byte_at : List ℕ → ℕ → ℕ
@@ -44,14 +39,6 @@ fields_at bytes i kind =
       len = little16_at bytes (place_of i + 14);
     }
 
-abbrev pub of_kind : List ℕ → ℕ → KindRead → Told EffectEntry
-of_kind bytes i Unknown = refused 9
-of_kind bytes i (Kind kind) = value (fields_at bytes i kind)
-
 -- entry i; 9 where "a probed entry's kind byte is above 5"
 unfoldable pub entry_at : List ℕ → ℕ → Told EffectEntry
-entry_at bytes i = of_kind bytes i (kind_of (kind_byte bytes i))
-
-abbrev pub told_entry : EntryRead → Told EffectEntry
-told_entry (R.Entry e) = value e
-told_entry (R.Refused e) = refused (number_of e)
+entry_at bytes i = and_then (kind_of (kind_byte bytes i)) (λ kind. value (fields_at bytes i kind))

@@ -1,8 +1,8 @@
 -- Document 01, "Bank": "`find_by_id` halves between 0 and count − 1, middle floored, and answers the first hit; failing that, it
 -- reads every entry from 0." "In the search, whichever row is met first along its path is given." Assumes nothing.
-use Rattle.std.specs.Prelude.{ℕ, zero, suc, ◌+◌, ◌-◌, ◌/◌, cond, List, [], ◌∷◌, ◌++◌, eqb, ltb, length}
+use Rattle.std.specs.Prelude.{ℕ, zero, suc, ◌+◌, ◌-◌, ◌/◌, cond, List, [], ◌∷◌, ◌++◌, eqb, ltb, length, Option}
 use Rattle.error.specs.Told.{Told, value, refused, and_then}
-use Rattle.bank.specs.declared.BankSet.{BankSet}
+use Rattle.bank.specs.declared.SoundBank.{SoundBank}
 use Rattle.bank.specs.declared.EffectEntry.{EffectEntry}
 use Rattle.bank.specs.Entries.{id_at, entry_at}
 use Rattle.bank.specs.Banks.{lent_bank}
@@ -37,5 +37,5 @@ decided bytes id (i ∷ rest) = and_then (entry_at bytes i) (λ e. cond (eqb e.i
 unfoldable pub found_in : List ℕ → ℕ → ℕ → Told EffectEntry
 found_in bytes count id = decided bytes id (halving bytes id count 0 count ++ up_to count)
 
-abbrev pub found_given : BankSet → List ℕ → ℕ → Told EffectEntry
+abbrev pub found_given : Option SoundBank → List ℕ → ℕ → Told EffectEntry
 found_given bank bytes id = and_then (lent_bank bank (length bytes)) (λ b. found_in bytes b.effect_count id)

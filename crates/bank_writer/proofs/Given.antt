@@ -1,16 +1,18 @@
 -- The tests that refuse with 13, as loops make them, and what they let through. Assumes nothing.
-use Prim.Native.Nat.{ℕ, zero, suc, ◌+◌, ◌≤◌, ◌<◌}
+use Prim.Native.Nat.{ℕ, zero, suc, ◌≤◌, ◌<◌}
 use native.Mathlib.Nat.{lt_irrefl}
 use native.Mathlib.Omega.{arith}
 use mathlib.Core.Path.{◌≡◌, refl, sym, ap, ◌∙◌}
 use mathlib.Core.Bool.{Bool, true, false, ◌||◌}
 use mathlib.Core.List.{List, [], ◌∷◌}
 use borrow.Author.Tests.{ne_eqb, eqb-false, ltb-false}
+use Rattle.std.specs.Bool.{MatchBool}
+use Rattle.std.specs.List.{HoldsAt, AllWithin}
 use lib.Dec.{eqb, ltb}
-use lib.ListN.{length, get_or, take, drop}
+use lib.ListN.{length, get_or}
 use Rattle.laws.specs.Lists.{All}
 use Rattle.laws.proofs.Bools.{never}
-use Rattle.laws.proofs.Lists.{all-get, all-imp, drop-take-cons, drop-take-end}
+use Rattle.laws.proofs.Lists.{all-get, all-imp}
 use Rattle.bank_writer.specs.declared.NewEntry.{NewEntry}
 use Rattle.bank_writer.specs.Order.{Part, id_of}
 use Rattle.bank_writer.specs.Refusals.{some_of, outside, share_id}
@@ -21,6 +23,10 @@ use Rattle.bank_writer.proofs.Ranks.{ids_in}
 pub or-false : (a b : Bool) → (a || b) ≡ false → (a ≡ false) × (b ≡ false)
 or-false true b e = never (sym e)
 or-false false b e = (refl, e)
+
+or-true : (a : Bool) → (a || true) ≡ true
+or-true true = refl
+or-true false = refl
 
 -- ---- a test of each
 
@@ -33,16 +39,19 @@ module _ {A : Type 0} (test : A → Bool) where
   unfolding some_of
   some-cons x l = refl
 
-  -- a loop over the first n: at one that passes the test, at one that does not, at its end
-  module _ (n i : ℕ) (l : List A) (d : A) where
-    pub some-here : i < n → n ≤ length l → test (get_or l i d) ≡ true → some_of test (drop i (take n l)) ≡ true
-    some-here h k e = rw (drop-take-cons n i l d h k, some-cons (get_or l i d), e)
+  some-at : (k : ℕ) (l : List A) → k < length l → HoldsAt (λ x. test x ≡ true) l k → some_of test l ≡ true
+  some-at k [] h p = absurd (lt_irrefl 0 (omega arith))
+  some-at zero (x ∷ l) h p = rw (some-cons x l, p x)
+  some-at (suc k) (x ∷ l) h p = rw (some-cons x l, some-at k l (omega arith) p) (or-true (test x))
 
-    pub some-on : i < n → n ≤ length l → test (get_or l i d) ≡ false → some_of test (drop (i + 1) (take n l)) ≡ some_of test (drop i (take n l))
-    some-on h k e = rw (drop-take-cons n i l d h k, some-cons (get_or l i d), e)
+  none-within : (l : List A) → AllWithin (λ x. test x ≡ false) l 0 (length l) → some_of test l ≡ false
+  none-within [] h = some-nil
+  none-within (x ∷ l) h = rw (some-cons x l, h 0 x (omega arith) (omega arith)) (none-within l (λ k d a b. h (suc k) d (omega arith) (omega arith)))
 
-  pub some_end : (n : ℕ) (l : List A) → some_of test (drop n (take n l)) ≡ false
-  some_end n l = rw (drop-take-end n l) some-nil
+  -- what `any` answers
+  pub some-cases : (r : Bool) (l : List A) → MatchBool r ((k : ℕ) × (k < length l) × HoldsAt (λ x. test x ≡ true) l k) (AllWithin (λ x. test x ≡ false) l 0 (length l)) → r ≡ some_of test l
+  some-cases true l m = sym (some-at m.0 l m.1 m.2)
+  some-cases false l m = sym (none-within l m)
 
   pub some-none : (l : List A) → some_of test l ≡ false → All (λ x. test x ≡ false) l
   some-none [] e = tt

@@ -7,16 +7,15 @@ use mathlib.Core.List.{List, [], ◌∷◌}
 use lib.ListN.{length, get_or, take, drop, length-drop, take-append-drop, drop_of_length-le}
 use lib.Seq.{ext_get_or, length-take-le, get_or-take, get_or-drop, drop-drop, take-add}
 use Rattle.error.proofs.Told.{value-is, not-refused}
+use Rattle.error.specs.Told.{Told, value, refused, and_then}
 use Rattle.tier.specs.declared.EffectKind.{EffectKind}
 use Rattle.tier.specs.declared.EffectKind.TheVariants as K
-use Rattle.tier.specs.declared.KindRead.{KindRead}
-use Rattle.tier.specs.declared.KindRead.TheVariants.{Kind, Unknown}
 use Rattle.tier.specs.Kinds.{kind_of, byte_of}
 use Rattle.laws.specs.Lists.{All}
 use Rattle.laws.proofs.Lists.{all-get}
 use Rattle.bank.specs.declared.EffectEntry.{EffectEntry}
 use Rattle.bank.proofs.Steps.{Known, known, unknown}
-use Rattle.bank.specs.Entries.{byte_at, little16_at, little32_at, place_of, id_at, kind_byte, fields_at, of_kind, entry_at}
+use Rattle.bank.specs.Entries.{byte_at, little16_at, little32_at, place_of, id_at, kind_byte, fields_at, entry_at}
 use Rattle.bank_writer.specs.declared.NewEntry.{NewEntry}
 use Rattle.bank_writer.specs.Order.{Part, InOrder, no_entry, no_part}
 use Rattle.bank_writer.specs.Layout.{entry_bytes, table, payloads_of, entries_of, laid_out, bank_bytes}
@@ -29,7 +28,7 @@ use Rattle.bank_writer.proofs.Reading.{table-cell, entries_at, length-entries}
 
 -- ---- a kind has one byte
 
-kind-byte : (n : ℕ) (x : EffectKind) → kind_of n ≡ Kind x → n ≡ byte_of x
+kind-byte : (n : ℕ) (x : EffectKind) → kind_of n ≡ value x → n ≡ byte_of x
 unfolding kind_of
 kind-byte zero x e = let q : K.Tone ≡ x = cc in rw (← q)
 kind-byte (suc zero) x e = let q : K.Wavetable ≡ x = cc in rw (← q)
@@ -79,9 +78,9 @@ fields bytes k e o h r = by (kind_of (kind_byte bytes k)) refl (r ∙ rw x.same)
     x : Known e.kind
     x = known e.kind h
 
-    by : (y : KindRead) → kind_of (kind_byte bytes k) ≡ y → of_kind bytes k y ≡ read_as e o (Kind x.kind) → Fields bytes k e o
-    by Unknown f g = not-refused (sym g)
-    by (Kind y) f g =
+    by : (y : Told EffectKind) → kind_of (kind_byte bytes k) ≡ y → and_then y (λ z. value (fields_at bytes k z)) ≡ read_as e o (value x.kind) → Fields bytes k e o
+    by (refused n) f g = not-refused (sym g)
+    by (value y) f g =
         let v = value-is g in
         let same : y ≡ x.kind = ap (λ (z : EffectEntry). z.kind) v in
         record {

@@ -10,14 +10,13 @@ use borrow.Author.Tests.{lt-ltb, le-ltb, le-leb, ltb-false}
 use lib.Dec.{ltb}
 use lib.ListN.{length, get_or, take, drop, length-append, length-map, length-take, get_or-append, get_or-map}
 use lib.Seq.{get_or-append-add, drop-append-add, take_at}
-use Rattle.error.specs.Told.{value, refused}
+use Rattle.error.specs.Told.{Told, value, refused, and_then}
 use Rattle.error.proofs.Told.{value-is, not-refused}
-use Rattle.tier.specs.declared.KindRead.{KindRead}
-use Rattle.tier.specs.declared.KindRead.TheVariants.{Kind, Unknown}
+use Rattle.tier.specs.declared.EffectKind.{EffectKind}
 use Rattle.tier.specs.Kinds.{kind_of}
 use Rattle.laws.specs.Lists.{All}
 use Rattle.laws.proofs.Lists.{all-get, all-imp}
-use Rattle.bank.specs.Entries.{byte_at, little16_at, little32_at, place_of, id_at, kind_byte, fields_at, of_kind, entry_at}
+use Rattle.bank.specs.Entries.{byte_at, little16_at, little32_at, place_of, id_at, kind_byte, fields_at, entry_at}
 use Rattle.bank.specs.Banks.{bank_of, payload_under}
 use Rattle.bank.specs.Search.{found_in}
 use Rattle.bank.proofs.Laws.{lent_same}
@@ -127,10 +126,10 @@ module _ (bytes : List ℕ) (k : ℕ) (e : NewEntry) (o : ℕ) (t : Typed e) (n 
   unfolding entry_bytes
   read-gain = cell 4 (place_of k + 4) (omega arith) refl
 
-  read-fields : (r : KindRead) → of_kind bytes k r ≡ read_as e o r
+  read-fields : (r : Told EffectKind) → and_then r (λ z. value (fields_at bytes k z)) ≡ read_as e o r
   unfolding fields_at
-  read-fields Unknown = refl
-  read-fields (Kind kind) = rw (read-id, read_flags, read-gain, read-param0, read-param1, read-offset, read-len)
+  read-fields (refused n) = refl
+  read-fields (value kind) = rw (read-id, read_flags, read-gain, read-param0, read-param1, read-offset, read-len)
 
   pub read-entry : entry_at bytes k ≡ read_as e o (kind_of e.kind)
   unfolding entry_at

@@ -12,7 +12,7 @@ use lib.ListN.{length, get_or, take, drop, length-append, length-map}
 use lib.Seq.{sets, sets-eq, length-take-le, get_or-take}
 use Rattle.error.specs.Told.{Told, value, refused}
 use Rattle.error.specs.declared.AudioError.TheVariants as E
-use Rattle.bank_writer.specs.declared.BankWritten.TheVariants as W
+use Rattle.std.specs.Prelude.{Ok, Err}
 use Rattle.laws.specs.Lists.{All}
 use Rattle.laws.proofs.Lists.{sets-append}
 use Rattle.bank.specs.Entries.{place_of}
@@ -258,11 +258,11 @@ module _ (header : List ℕ) (es : List NewEntry) (count : ℕ) (payloads starts
 
 -- ---- the answer
 
-pub wrote-13 : {t : Told (List ℕ)} (cells : List ℕ) → t ≡ refused 13 → Wrote t cells cells (W.Refused E.BadEntries)
+pub wrote-13 : {t : Told (List ℕ)} (cells : List ℕ) → t ≡ refused 13 → Wrote t cells cells (Err E.BadEntries)
 wrote-13 cells e = record { answer = rw e; cells = rw e }
 
-pub wrote-14 : {t : Told (List ℕ)} (cells : List ℕ) → t ≡ refused 14 → Wrote t cells cells (W.Refused E.ShortBuffer)
+pub wrote-14 : {t : Told (List ℕ)} (cells : List ℕ) → t ≡ refused 14 → Wrote t cells cells (Err E.ShortBuffer)
 wrote-14 cells e = record { answer = rw e; cells = rw e }
 
-pub wrote-bank : {t : Told (List ℕ)} (bytes before after : List ℕ) (n : ℕ) → t ≡ value bytes → n ≡ length bytes → after ≡ bytes ++ drop (length bytes) before → Wrote t before after (W.Length n)
+pub wrote-bank : {t : Told (List ℕ)} (bytes before after : List ℕ) (n : ℕ) → t ≡ value bytes → n ≡ length bytes → after ≡ bytes ++ drop (length bytes) before → Wrote t before after (Ok n)
 wrote-bank bytes before after n e f g = record { answer = rw (e, f); cells = rw e g }

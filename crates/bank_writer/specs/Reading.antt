@@ -1,12 +1,10 @@
 -- What document 01's calls find in a bank that was written, and which bytes hold the same. Assumes nothing.
-use Rattle.std.specs.Prelude.{ℕ, ◌+◌, ◌≤◌, ◌<◌, ◌≡◌, Bool, cond, List, [], ◌∷◌, ltb, length, get_or, take, drop}
-use Rattle.error.specs.Told.{Told, value, refused, passed}
-use Rattle.tier.specs.declared.KindRead.{KindRead}
-use Rattle.tier.specs.declared.KindRead.TheVariants.{Kind, Unknown}
+use Rattle.std.specs.Prelude.{ℕ, ◌+◌, ◌≤◌, ◌<◌, ◌≡◌, Bool, cond, List, [], ◌∷◌, ltb, length, get_or, take, drop, Some}
+use Rattle.error.specs.Told.{Told, value, refused, and_then, passed}
+use Rattle.tier.specs.declared.EffectKind.{EffectKind}
 use Rattle.tier.specs.Kinds.{kind_of}
 use Rattle.laws.specs.Lists.{All}
 use Rattle.bank.specs.declared.SoundBank.{SoundBank}
-use Rattle.bank.specs.declared.BankSet.TheVariants as S
 use Rattle.bank.specs.declared.EffectEntry.{EffectEntry}
 use Rattle.bank.specs.Entries.{byte_at, place_of, entry_at}
 use Rattle.bank.specs.Banks.{bank_of, payload_under, payload_part}
@@ -25,20 +23,21 @@ pub record Typed (e : NewEntry) : Type 0 where
   pub param1 : e.param1 < 65536
 
 -- an entry as it is read: every field as given, and its offset
-abbrev pub read_as : NewEntry → ℕ → KindRead → Told EffectEntry
-read_as e offset Unknown = refused 9
-read_as e offset (Kind kind) =
+abbrev pub read_as : NewEntry → ℕ → Told EffectKind → Told EffectEntry
+read_as e offset kind =
+    and_then kind
+    (λ k.
     value
     (record {
       id = e.id;
-      kind = kind;
+      kind = k;
       flags = e.flags;
       default_gain_q8 = e.default_gain_q8;
       param0 = e.param0;
       param1 = e.param1;
       offset = offset;
       len = e.len;
-    })
+    }))
 
 -- the bytes of all payloads whose entries have a lower id
 unfoldable pub lower_bytes : ℕ → List Part → ℕ
@@ -58,10 +57,10 @@ set_at rate ps bytes = record { sample_rate_hz = rate; effect_count = length ps;
 pub record ReadBack (ps : List Part) (bytes : List ℕ) (rate : ℕ) : Type 0 where
   pub setting : bank_of rate (length ps) (length bytes) ≡ value (set_at rate ps bytes)
   pub known : (i : ℕ) → i < length ps → (get_or ps i no_part).entry.kind ≤ 5
-  pub found : (i : ℕ) → i < length ps → let p = get_or ps i no_part in found_given (S.Bank (set_at rate ps bytes)) bytes (id_of p) ≡ read_as p.entry (offset_of ps p) (kind_of p.entry.kind)
-  pub number : (parted : Bool) (i : ℕ) → i < length ps → let p = get_or ps i no_part in payload_under parted (S.Bank (set_at rate ps bytes)) bytes (offset_of ps p) p.entry.len ≡ passed
-  pub payload : (i : ℕ) → i < length ps → let p = get_or ps i no_part in payload_part (S.Bank (set_at rate ps bytes)) bytes (offset_of ps p) p.entry.len ≡ p.payload
-  pub missing : (id : ℕ) → All (λ q. id_of q ≡ id → ⊥) ps → found_given (S.Bank (set_at rate ps bytes)) bytes id ≡ refused 8
+  pub found : (i : ℕ) → i < length ps → let p = get_or ps i no_part in found_given (Some (set_at rate ps bytes)) bytes (id_of p) ≡ read_as p.entry (offset_of ps p) (kind_of p.entry.kind)
+  pub number : (parted : Bool) (i : ℕ) → i < length ps → let p = get_or ps i no_part in payload_under parted (Some (set_at rate ps bytes)) bytes (offset_of ps p) p.entry.len ≡ passed
+  pub payload : (i : ℕ) → i < length ps → let p = get_or ps i no_part in payload_part (Some (set_at rate ps bytes)) bytes (offset_of ps p) p.entry.len ≡ p.payload
+  pub missing : (id : ℕ) → All (λ q. id_of q ≡ id → ⊥) ps → found_given (Some (set_at rate ps bytes)) bytes id ≡ refused 8
 
 -- Bytes that hold these entries in this order: the header, each entry at its place as given, with the unread byte 0 and its payload where the
 -- one before it ends, and nothing more

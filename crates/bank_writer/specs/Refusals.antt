@@ -1,11 +1,9 @@
 -- Document 02, T-05: "13: more than 64 entries, a kind above 5, a payload over 65,535 bytes, lengths that don't add up to the payloads
 -- lent, or two entries that share an id, checked first. 14: the lent buffer is shorter than the bank." Assumes nothing.
-use Rattle.std.specs.Prelude.{ℕ, ◌+◌, ◌≡◌, Bool, false, cond, not, ◌||◌, List, [], ◌∷◌, ◌++◌, eqb, ltb, length, take, drop}
-use Rattle.error.specs.Numbers.{number_of}
-use Rattle.error.specs.Told.{Told, value, refused, and_then}
+use Rattle.std.specs.Prelude.{ℕ, ◌+◌, ◌≡◌, Bool, false, cond, not, ◌||◌, List, [], ◌∷◌, ◌++◌, eqb, ltb, length, take, drop, Result}
+use Rattle.error.specs.Told.{Told, value, refused, told, and_then}
 use Rattle.bank_writer.specs.declared.NewEntry.{NewEntry}
-use Rattle.bank_writer.specs.declared.BankWritten.{BankWritten}
-use Rattle.bank_writer.specs.declared.BankWritten.TheVariants as W
+use Rattle.error.specs.declared.AudioError.{AudioError}
 use Rattle.bank_writer.specs.Order.{paired}
 use Rattle.bank_writer.specs.Layout.{bank_bytes}
 
@@ -37,10 +35,6 @@ bank_given header es count payloads room =
     (cond (ltb room (length (bank_bytes header (paired (take count es) payloads)))) (refused 14)
     (value (bank_bytes header (paired (take count es) payloads))))
 
-abbrev pub told_length : BankWritten → Told ℕ
-told_length (W.Length n) = value n
-told_length (W.Refused e) = refused (number_of e)
-
 -- "its length is returned", and "cells after the bank are not written"; where it is refused, no cell is
 abbrev pub length_in : Told (List ℕ) → Told ℕ
 length_in bank = and_then bank (λ bytes. value (length bytes))
@@ -49,6 +43,6 @@ abbrev pub cells_after : Told (List ℕ) → List ℕ → List ℕ
 cells_after (value bytes) cells = bytes ++ drop (length bytes) cells
 cells_after (refused n) cells = cells
 
-pub record Wrote (bank : Told (List ℕ)) (before after : List ℕ) (r : BankWritten) : Type 0 where
-  pub answer : told_length r ≡ length_in bank
+pub record Wrote (bank : Told (List ℕ)) (before after : List ℕ) (r : Result ℕ AudioError) : Type 0 where
+  pub answer : told r ≡ length_in bank
   pub cells : after ≡ cells_after bank before

@@ -11,32 +11,35 @@ pub fn put(out: &mut [u8], at: usize, bytes: &[u8])
     requires { at + length bytes.now ≤ length out.old }
     ensures { out.new ≡ sets out.old at bytes.now }
 {
-    for i in 0..bytes.len() {
-        out[at + i] = bytes[i];
-    }
+    out[at..at + bytes.len()].copy_from_slice(bytes);
 }
 
+#[tactic(auto, unfolding(crate::specs::Layout::entry_bytes))]
 fn entry_bytes(e: NewEntry, offset: usize) -> [u8; 16]
     ensures { result ≡ entry_bytes e offset }
 {
-    let high = offset / 65536;
+    let id = e.id.to_le_bytes();
+    let param0 = e.param0.to_le_bytes();
+    let param1 = e.param1.to_le_bytes();
+    let place = offset.to_le_bytes();
+    let len = e.len.to_le_bytes();
     [
-        (e.id % 256) as u8,
-        (e.id / 256 % 256) as u8,
+        id[0],
+        id[1],
         e.kind,
         e.flags,
         e.default_gain_q8,
         0,
-        (e.param0 % 256) as u8,
-        (e.param0 / 256 % 256) as u8,
-        (e.param1 % 256) as u8,
-        (e.param1 / 256 % 256) as u8,
-        (offset % 256) as u8,
-        (offset / 256 % 256) as u8,
-        (high % 256) as u8,
-        (high / 256 % 256) as u8,
-        (e.len % 256) as u8,
-        (e.len / 256 % 256) as u8,
+        param0[0],
+        param0[1],
+        param1[0],
+        param1[1],
+        place[0],
+        place[1],
+        place[2],
+        place[3],
+        len[0],
+        len[1],
     ]
 }
 
@@ -44,6 +47,7 @@ pub fn put_entries(entries: [NewEntry; 64], places: &[u8; 64], count: usize, out
     requires { (count ≤ 64) × (count ≤ length places.now) × Within places.now count 64 × (place_of count ≤ length out.old) }
     ensures { out.new ≡ sets out.old 10 (table (place_of count) (picked_entries entries (take count places.now))) }
 {
+    // `as usize` here and below, not `usize::from`: tried, and each use in both proofs needs the call's clause first, so it is no plainer.
     let mut offset = 10 + 16 * count;
     for k in 0..count {
         let e = entries[places[k] as usize];

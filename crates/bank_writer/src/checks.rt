@@ -10,16 +10,7 @@ pub fn some_outside(entries: [NewEntry; 64], count: usize) -> bool
     requires { count ≤ 64 }
     ensures { result ≡ some_of outside (take count entries) }
 {
-    for i in 0..count {
-        let e = entries[i];
-        if e.kind > 5 {
-            return true;
-        }
-        if e.len > 65535 {
-            return true;
-        }
-    }
-    false
+    entries[..count].iter().any(|e| e.kind > 5 || e.len > 65535)
 }
 
 // Where each payload begins among those lent, and behind the last of them where they end. 64 lengths of 32 bits do not wrap.
@@ -29,8 +20,7 @@ pub fn starts_of(entries: [NewEntry; 64]) -> [usize; 65]
     let mut starts = [0usize; 65];
     let mut next: usize = 0;
     for i in 0..64 {
-        let e = entries[i];
-        next += e.len as usize;
+        next += entries[i].len as usize;
         starts[i + 1] = next;
     }
     starts

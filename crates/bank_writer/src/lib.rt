@@ -19,7 +19,7 @@ pub const MAX_ENTRIES: usize = 64;
 pub const GIVEN_SIZE: usize = 13;
 
 // What is given of an entry; its payload lies among those lent.
-#[derive(Clone, Copy)]
+#[derive(Clone, Copy, Debug, Default, PartialEq, Eq)]
 pub struct NewEntry {
     pub id: u16,
     pub kind: u8,
@@ -30,47 +30,40 @@ pub struct NewEntry {
     pub len: u32,
 }
 
-#[derive(Clone, Copy)]
-pub enum BankWritten {
-    Length(usize),
-    Refused(AudioError),
-}
-
 // The first `count` entries with their payloads, which are lent end to end in the same order, as a bank at the front of `out`.
+// An array and a count, not a slice: from C and from a record they come apart, and a count above 64 is this call's to refuse.
 pub fn write_bank(
     header: [u8; 10],
     entries: [NewEntry; 64],
     count: usize,
     payloads: &[u8],
     out: &mut [u8],
-) -> BankWritten
+) -> Result<usize, AudioError>
     ensures { Wrote (bank_given header entries count payloads.now (length out.old)) out.old out.new result }
 {
     if count > MAX_ENTRIES {
-        return BankWritten::Refused(AudioError::BadEntries);
+        return Err(AudioError::BadEntries);
     }
     if checks::some_outside(entries, count) {
-        return BankWritten::Refused(AudioError::BadEntries);
+        return Err(AudioError::BadEntries);
     }
     let starts = checks::starts_of(entries);
     if starts[count] != payloads.len() {
-        return BankWritten::Refused(AudioError::BadEntries);
+        return Err(AudioError::BadEntries);
     }
     let ids = sorting::ids_of(entries, count);
-    let order = sorting::order_of(&ids, count);
-    if order.shared {
-        return BankWritten::Refused(AudioError::BadEntries);
-    }
+    let Some(places) = sorting::order_of(&ids, count) else {
+        return Err(AudioError::BadEntries);
+    };
     let begin = 10 + 16 * count;
     let end = begin + payloads.len();
     if end > out.len() {
-        return BankWritten::Refused(AudioError::ShortBuffer);
+        return Err(AudioError::ShortBuffer);
     }
-    let places = order.places;
     cells::put(out, 0, &header);
     cells::put_entries(entries, &places, count, out);
     cells::put_payloads(&places, &starts, count, payloads, out);
-    BankWritten::Length(end)
+    Ok(end)
 }
 
 // The entries that a program hands over as bytes, from the first on. Bytes behind the last whole one are not read, and those behind the
@@ -78,9 +71,5 @@ pub fn write_bank(
 pub fn entries_from(bytes: &[u8]) -> [NewEntry; 64]
     ensures { result ≡ entries_from bytes.now }
 {
-    let mut entries = [listed::none(); 64];
-    for i in 0..64 {
-        entries[i] = listed::entry_from(bytes, GIVEN_SIZE * i);
-    }
-    entries
+    std::array::from_fn(|i| listed::entry_from(bytes, GIVEN_SIZE * i))
 }

@@ -1,4 +1,5 @@
 -- The frames of a run, from the runs of the voices. Assumes nothing.
+use Rattle.std.specs.Prelude.{None, Option}
 use Prim.Native.Nat.{ℕ, zero, suc, ◌+◌, ◌*◌, ◌≤◌, ◌<◌}
 use native.Mathlib.Nat.{zero-mul, mul-zero, suc-mul, add-zero}
 use native.Mathlib.Omega.{arith}
@@ -10,8 +11,6 @@ use lib.Dec.{eqb}
 use lib.IntN.{ℤ}
 use lib.ListN.{length, get_or, set, length-set}
 use Rattle.fixed.specs.Fixed.{gained_by}
-use Rattle.fixed.specs.declared.Given.{Given}
-use Rattle.fixed.specs.declared.Given.TheVariants as G
 use Rattle.laws.specs.Lists.{map_first}
 use Rattle.laws.specs.Runs.{after, given}
 use Rattle.laws.proofs.Bools.{never}
@@ -22,7 +21,6 @@ use Rattle.mixer.specs.declared.Mixer.{Mixer}
 use Rattle.voice.specs.Voices as S
 use Rattle.voice.specs.Voices.{ticked_voice, stepped_voice, silent_voice}
 use Rattle.voice.specs.declared.Voice.{Voice}
-use Rattle.voice.specs.declared.StereoGiven.{StereoGiven}
 use Rattle.voice.specs.declared.source.VoiceSource.TheVariants as I
 use Rattle.envelope.specs.Adsrs as A
 use Rattle.frame.specs.Fades.{voice_at, fade_ended_with, fade_ended_by, fade_at, next_t, advanced_by, advanced, marks_ended, marks_advanced}
@@ -195,12 +193,12 @@ after-pair k m p h =
 -- ---- what a frame gives
 
 -- what a voice answers in frame k, by a rule of gain 255
-abbrev pub answer_at : Bool → ℕ → Voice → Given
+abbrev pub answer_at : Bool → ℕ → Voice → Option ℤ
 answer_at w k v = S.sample_by w (ticked_voice (after voice_step k v))
 
-pub run_at : (w : Bool) (n k : ℕ) (v : Voice) → k < n → get_or (voice_run w n v) k G.None ≡ answer_at w k v
+pub run_at : (w : Bool) (n k : ℕ) (v : Voice) → k < n → get_or (voice_run w n v) k None ≡ answer_at w k v
 unfolding voice_answer
-run_at w n k v h = given-at voice_step (λ v. S.sample_by w (ticked_voice v)) n k v G.None h
+run_at w n k v h = given-at voice_step (λ v. S.sample_by w (ticked_voice v)) n k v None h
 
 -- the marks stay as they are where the frame ends no fade
 marks-quiet : (r : Marks) (m : Mixer) → m.crossfade_active ≡ false → marks_advanced m r ≡ r
@@ -342,16 +340,16 @@ pan-after zero v = refl
 pan-after (suc k) v = pan-after k (voice_step v) ∙ pan-stepped (ticked_voice v) ∙ pan-ticked v
 
 -- what a voice adds to a side in frame k
-abbrev pub side_at : (StereoGiven → ℤ) → Marks → ℕ → ℕ → Voice → ℤ
+abbrev pub side_at : (Option (ℤ × ℤ) → ℤ) → Marks → ℕ → ℕ → Voice → ℤ
 side_at side r k i v = side (S.panned_by (gained_by (rule_at r i)) v.pan_q8 (answer_at (rule_at r i) k v))
 
-side-sum : (side : StereoGiven → ℤ) (r : Marks) (k i : ℕ) (vs : List Voice)
+side-sum : (side : Option (ℤ × ℤ) → ℤ) (r : Marks) (k i : ℕ) (vs : List Voice)
     → side_total side (map_at (λ i v. S.pair_by (rule_at r i) v) i (map ticked_voice (map (after voice_step k) vs))) ≡ sum_at (side_at side r k) i vs
 unfolding side_total sum_at map_at S.pair_by
 side-sum side r k i [] = refl
 side-sum side r k i (v ∷ vs) = rw (side-sum side r k (suc i) vs, pan-ticked (after voice_step k v), pan-after k v)
 
-side-enveloped : (side : StereoGiven → ℤ) (r : Marks) (k : ℕ) (m : Mixer) (t : ℕ)
+side-enveloped : (side : Option (ℤ × ℤ) → ℤ) (r : Marks) (k : ℕ) (m : Mixer) (t : ℕ)
     → side_total side (pairs_of r (voices_of (enveloped (moved m (run_all k m.n m.voices) t)))) ≡ sum_at (side_at side r k) 0 (voices_of m)
 unfolding enveloped fade_at
 side-enveloped side r k m t =
@@ -365,7 +363,7 @@ advanced-moved : (on : Bool) (m : Mixer) (vs : List Voice) (t : ℕ) → Slow (m
 unfolding fade_at
 advanced-moved on m vs t h = advanced-lasting on (moved m vs t) h
 
-abbrev side_frame : (StereoGiven → ℤ) → Marks → Mixer → ℤ
+abbrev side_frame : (Option (ℤ × ℤ) → ℤ) → Marks → Mixer → ℤ
 side_frame side r m =
     let b = enveloped (advanced_by r.sounds_on m) in
     let q = marks_advanced m r in
@@ -375,7 +373,7 @@ level-kept : (r : Marks) (m : Mixer) (vs : List Voice) (t : ℕ) (z : ℤ) → l
 unfolding enveloped fade_at
 level-kept r m vs t z = refl
 
-side-at : (side : StereoGiven → ℤ) (r : Marks) (k : ℕ) (m : Mixer) → Slow m (suc k)
+side-at : (side : Option (ℤ × ℤ) → ℤ) (r : Marks) (k : ℕ) (m : Mixer) → Slow m (suc k)
     → side_frame side r (after stereo_step k m) ≡ leveled r m (sum_at (side_at side r k) 0 (voices_of m))
 side-at side r k m h =
     let vs = run_all k m.n m.voices in

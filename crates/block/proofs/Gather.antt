@@ -1,4 +1,5 @@
 -- Sums and counts over the voices, cell by cell, as the loops over the voices have them. Assumes nothing.
+use Rattle.std.specs.Prelude.{None, Option}
 use Prim.Native.Nat.{ℕ, zero, suc, ◌+◌, ◌-◌, ◌*◌, ◌≤◌, ◌<◌, min}
 use native.Mathlib.Nat.{mul-le-mul_right}
 use native.Mathlib.Numerals.{add-one}
@@ -15,8 +16,6 @@ use Rattle.fixed.proofs.Answers.{answer_at_lem, no_answer, heard-short}
 use Rattle.fixed.specs.Answers.{heard, Filled}
 use Rattle.fixed.specs.Fixed.{factor_of, pan_gains}
 use Rattle.fixed.specs.declared.PanGains.{PanGains}
-use Rattle.fixed.specs.declared.Given.{Given}
-use Rattle.fixed.specs.declared.Given.TheVariants as G
 use Rattle.frame.specs.Frames.{leveled, crossed, mono_frame_by, stereo_frame_by, left_of, right_of}
 use Rattle.marks.specs.Marks.{rule_at}
 use Rattle.marks.specs.declared.Marks.{Marks}
@@ -33,7 +32,7 @@ use Rattle.voice.specs.Blocks.{voice_step, voice_answer, voice_run, VoiceBlock}
 use Rattle.voice.specs.Voices.{silent_voice, ticked_voice, sample_by}
 use Rattle.voice.specs.declared.Voice.{Voice}
 use Rattle.block.specs.Parts.{Slow, frame_at, moved_on, rested_others}
-use Rattle.voice.specs.declared.blocks.VoiceRun.{VoiceRun}
+use Rattle.fixed.specs.declared.Step.{Step}
 use Rattle.block.proofs.Parts.{read_at, others-stored}
 use Rattle.block.specs.Cells.{Within, AtMost, Added, Tallied, mean_of, mean_at, cell_answer, faded_at}
 use Rattle.block.proofs.Cells.{le-or-gt}
@@ -46,7 +45,7 @@ pub cell-answer : {len n : ℕ} {cells filled : List ℤ} (w : Bool) (v : Voice)
 cell-answer {len = len} {n = n} {cells = cells} {filled = filled} w v k l f h =
     let e : min len 256 ≡ len = omega arith in
     let run = voice_run w (min len 256) v in
-    let a : answer_at w k v ≡ get_or run k G.None = sym (run_at w (min len 256) k v (omega arith)) in
+    let a : answer_at w k v ≡ get_or run k None = sym (run_at w (min len 256) k v (omega arith)) in
     elim (le-or-gt n k) [
       | inl p ↦ a ∙ no_answer run (voice-stops w (min len 256) v) k (omega (arith, f.count)) ∙ rw (le-ltb k n p)
       | inr p ↦
@@ -133,14 +132,14 @@ module _ {len i n : ℕ} {vs : List Voice} {v : Voice} {cells samples : List ℤ
         full = a.cells.size ∙ s.full;
         small = λ j. omega (arith, a.grown i s.small j);
         cells = λ k h.
-            (let f : ℕ → Voice → Given = λ j v. answer_at (rule_at r j) k v in
+            (let f : ℕ → Voice → Option ℤ = λ j v. answer_at (rule_at r j) k v in
             let q : count_at f 0 (take (i + 1) vs) ≡ count_at f 0 (take i vs) + one_of (answer_at w k v) =
             rw (add-one i, take-suc vs i d there, count-last f 0 (take i vs) (get_or vs i d), place_at i vs there, e, u) in
             tallied-cell samples k a ∙ rw (s.cells k h, q, cell-answer w v k l filled h));
       }
 
 -- a turn of a loop over the voices: voice i runs over the block
-module _ (m mixed : Mixer) (r : Marks) (len i : ℕ) (d : Voice) {cells samples : List ℤ} {ran : VoiceRun} (l : len ≤ 256) (there : i < length m.voices)
+module _ (m mixed : Mixer) (r : Marks) (len i : ℕ) (d : Voice) {cells samples : List ℤ} {ran : Step Voice ℕ} (l : len ≤ 256) (there : i < length m.voices)
     (inv : mixed ≡ with_voices m (run_all len i m.voices)) (b : VoiceBlock (rule_at r i) (get_or mixed.voices i d) (min len 256) cells ran samples) where
   read : get_or mixed.voices i d ≡ get_or m.voices i d
   read = rw inv (read_at (after voice_step len) i m.voices d)
@@ -213,7 +212,7 @@ module _ (m : Mixer) (r : Marks) (len at : ℕ) where
 
 -- ---- a fade: voices 0 and 1
 
-module _ (m : Mixer) (r : Marks) (len : ℕ) (d : Voice) {first second cells cells2 : List ℤ} {a b : VoiceRun} (p : Pair m.n m.voices m.crossfade_active) (l : len ≤ 256)
+module _ (m : Mixer) (r : Marks) (len : ℕ) (d : Voice) {first second cells cells2 : List ℤ} {a b : Step Voice ℕ} (p : Pair m.n m.voices m.crossfade_active) (l : len ≤ 256)
     (h : Slow m len) (fa : VoiceBlock (rule_at r 0) (get_or m.voices 0 d) (min len 256) cells a first) (fb : VoiceBlock (rule_at r 1) (get_or m.voices 1 d) (min len 256) cells2 b second) where
   same-voice : (i : ℕ) → i < 2 → voice_at m i ≡ get_or m.voices i d
   same-voice i k = get_d_any m.voices i (silent_voice 0) d (omega (arith, p.2))

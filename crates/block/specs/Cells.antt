@@ -1,8 +1,6 @@
 -- Inner: cells of a block, written, added to, counted up. Assumes nothing.
-use Rattle.std.specs.Prelude.{ℕ, suc, ◌+◌, ◌-◌, ◌*◌, ◌≤◌, ◌<◌, ◌≡◌, Bool, cond, List, ltb, ℤ, pos, nat_abs, ◌+ℤ◌, length, get_or}
+use Rattle.std.specs.Prelude.{ℕ, suc, ◌+◌, ◌-◌, ◌*◌, ◌≤◌, ◌<◌, ◌≡◌, Bool, cond, List, ltb, ℤ, pos, nat_abs, ◌+ℤ◌, length, get_or, None, Option, Some}
 use Rattle.fixed.specs.Fixed.{gained, limited}
-use Rattle.fixed.specs.declared.Given.{Given}
-use Rattle.fixed.specs.declared.Given.TheVariants as G
 use Rattle.frame.specs.Frames.{crossed}
 use Rattle.laws.specs.Whole.{trunc_div}
 
@@ -48,11 +46,11 @@ abbrev pub mean_at : ℕ → List ℤ → List ℕ → ℕ → ℕ → ℤ
 mean_at gain sums counts at j = leveled_by gain (mean_of (get_or sums (j - at) (pos 0)) (get_or counts (j - at) 0))
 
 -- an answer, from whether there is a sample
-abbrev pub answer_of : Bool → ℤ → Given
-answer_of there sample = cond there (G.Sample sample) G.None
+abbrev pub answer_of : Bool → ℤ → Option ℤ
+answer_of there sample = cond there (Some sample) None
 
 -- the answer in frame j of a voice that gave the first n cells
-abbrev pub cell_answer : List ℤ → ℕ → ℕ → Given
+abbrev pub cell_answer : List ℤ → ℕ → ℕ → Option ℤ
 cell_answer cells n j = answer_of (ltb j n) (get_or cells j (pos 0))
 
 -- frame j of a fade, from the two voices' answers; t is what it was before frame 0

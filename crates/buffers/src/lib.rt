@@ -3,14 +3,13 @@
 
 ghost use Rattle.std.specs.Prelude.{◌≡◌};
 ghost use Rattle.block.specs.Blocks.{ValidInside};
-ghost use Rattle.output.specs.Duty.{ValidPeriod};
 ghost use Rattle.output.specs.Levels.{raised};
 ghost use Rattle.buffers.specs.Buffers.{to_i8, to_i16, to_i32};
 ghost use Rattle.buffers.specs.Shapes.{FillsFrom, LevelsFrom};
 
 use block::sound;
 use marks::Present;
-use output::{Period, PeriodRead};
+use output::Period;
 use tone::block_len;
 
 mod scales;
@@ -128,7 +127,7 @@ pub fn fill_u8(p: Present, shape: Shape, out: &mut [u8]) -> Filled
 
 // A frame for each cell, by a period that is the state's own.
 fn fill_levels(p: Present, level: Level, period: Period, out: &mut [u16]) -> Filled
-    requires { ValidInside p × ValidPeriod period × (period.counts ≡ p.mixer.config.pwm_period) }
+    requires { ValidInside p × (period ≡ p.mixer.config.pwm_period) }
     ensures { LevelsFrom level p out.old result out.new }
 {
     let len = out.len();
@@ -156,9 +155,9 @@ pub fn fill_u16(p: Present, level: Level, out: &mut [u16]) -> Filled
     let m = p.mixer;
     let config = m.config;
     match Period::new(config.pwm_period) {
-        PeriodRead::Accepted(period) => fill_levels(p, level, period, out),
+        Ok(period) => fill_levels(p, level, period, out),
         // A valid state's period is accepted.
-        PeriodRead::Refused(e) => Filled {
+        Err(e) => Filled {
             state: p,
             filled: 0,
         },

@@ -3,7 +3,7 @@ ghost use Rattle.std.specs.Prelude.{◌≡◌, map, ◌+◌, ◌*◌, ◌≤◌,
 ghost use Rattle.std.proofs.lemmas.List.Edits.{sets};
 ghost use Rattle.output.specs.Levels.{raised};
 ghost use Rattle.laws.specs.Made.{Made};
-ghost use Rattle.output.specs.Duty.{ValidPeriod, ValidMapper, ValidMapped};
+ghost use Rattle.output.specs.Duty.{ValidMapper, ValidMapped};
 ghost use Rattle.buffers.specs.Buffers.{to_i8, to_i16, to_i32};
 ghost use Rattle.buffers.specs.Shapes.{sides_of};
 ghost use Rattle.buffers.specs.Blocks.{pairs, leveled, mapper_over, levels_over, Span, Laid};
@@ -50,8 +50,8 @@ pub fn put_u8(raw: &[i8], k: usize, at: usize, out: &mut [u8])
 
 // A sample's cell at a level, and the mapper after it.
 fn cell(level: Level, mapper: PwmMapper, sample: i8, period: Period) -> Mapped
-    requires { ValidMapper mapper × ValidPeriod period }
-    ensures { Made ValidMapped (leveled level period.counts mapper sample) result }
+    requires { ValidMapper mapper }
+    ensures { Made ValidMapped (leveled level period mapper sample) result }
 {
     match level {
         Level::Duty => mapper.map(sample, period),
@@ -76,8 +76,8 @@ pub fn put_levels(
     at: usize,
     out: &mut [u16],
 ) -> PwmMapper
-    requires { (k ≤ length raw.now) × (at + k ≤ length out.old) × ValidMapper mapper × ValidPeriod period }
-    ensures { Made ValidMapper (mapper_over level period.counts mapper (take k raw.now)) result × (out.new ≡ sets out.old at (levels_over level period.counts mapper (take k raw.now))) }
+    requires { (k ≤ length raw.now) × (at + k ≤ length out.old) × ValidMapper mapper }
+    ensures { Made ValidMapper (mapper_over level period mapper (take k raw.now)) result × (out.new ≡ sets out.old at (levels_over level period mapper (take k raw.now))) }
 {
     let mut state = mapper;
     for i in 0..k {

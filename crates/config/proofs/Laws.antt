@@ -1,11 +1,14 @@
 -- Laws of the fade's step. Assumes nothing.
-use mathlib.Core.Path.{◌≡◌, refl}
+use mathlib.Core.Path.{◌≡◌, refl, sym}
 use mathlib.Core.Bool.{Bool, true, false, cond, ◌||◌}
-use Prim.Native.Nat.{ℕ, zero, suc, ◌+◌, ◌-◌, ◌/◌, ◌≤◌, ◌<◌}
+use Prim.Native.Nat.{ℕ, zero, suc, ◌+◌, ◌-◌, ◌*◌, ◌≤◌, ◌<◌}
 use native.Mathlib.Nat.{div-le_of_le-mul, le-div_iff_mul-le, zero-mul, mul-zero}
 use native.Mathlib.Omega.{arith}
 use borrow.Author.Tests.{eq-eqb, ne_eqb}
 use lib.Dec.{eqb}
+use Rattle.std.specs.Int.{div_ceil}
+use Rattle.std.proofs.lemmas.Grind.{div_ceil_times}
+use Rattle.std.proofs.lemmas.Nat.{div-mul-add}
 use Rattle.laws.specs.Durations.{samples_of, samples_wrapped}
 use Rattle.laws.proofs.Durations.{samples-wrapped}
 use Rattle.config.specs.Config.{rounded_up, fade_step}
@@ -16,6 +19,16 @@ up_least m p = (le-div_iff_mul-le {k = m} {x = 1} {y = 255 + (m - 1)} p).1 (omeg
 
 pub up-most : (m : ℕ) → 0 < m → rounded_up 255 m ≤ 255
 up-most m p = div-le_of_le-mul m (omega arith)
+
+-- the standard library's rounding up is document 01's
+pub ceil-rounded_up : (m : ℕ) → 0 < m → div_ceil 255 m ≡ rounded_up 255 m
+ceil-rounded_up m p =
+    let c = div_ceil 255 m in
+    let h = div_ceil_times 255 m p in
+    let b = 255 + (m - 1) - c * m in
+    let l : b < m = omega (arith, h.0) in
+    let e : c * m + b ≡ 255 + (m - 1) = omega (arith, h.1) in
+    sym (rw e at (div-mul-add c m b l))
 
 -- no whole sample
 pub step-none : (ms rate : ℕ) → samples_wrapped ms rate ≡ 0 → fade_step ms rate ≡ 255

@@ -10,7 +10,7 @@ pub const DEFAULT_SAMPLE_RATE_HZ: u32 = 16_000;
 
 pub const DEFAULT_PWM_PERIOD: u16 = 1000;
 
-#[derive(Clone, Copy)]
+#[derive(Clone, Copy, Debug, PartialEq, Eq)]
 pub struct AudioConfig {
     pub sample_rate_hz: u32,
     pub pwm_period: u16,
@@ -40,13 +40,6 @@ impl AudioConfig {
         )
     }
 
-    // The source's `Default`.
-    pub fn default() -> Self
-        ensures { result ≡ default_duty }
-    {
-        Self::default_duty()
-    }
-
     pub fn master_gain_q8(self, gain: u8) -> Self
         ensures { result ≡ with_master_gain self gain }
     {
@@ -57,14 +50,22 @@ impl AudioConfig {
     }
 }
 
+// By hand: a derived `default` would be another configuration.
+impl Default for AudioConfig {
+    ghost is_default = { λ config. config ≡ default_duty };
+
+    fn default() -> AudioConfig {
+        AudioConfig::default_duty()
+    }
+}
+
 // The fade's step in 256ths.
 pub fn crossfade_step_q8(duration_ms: u16, sample_rate_hz: u32) -> u8
     ensures { result ≡ fade_step duration_ms sample_rate_hz }
 {
-    let product = (duration_ms as u64) * (sample_rate_hz as u64) % 0x1_0000_0000;
-    let samples = product / 1000;
+    let samples = u32::from(duration_ms).wrapping_mul(sample_rate_hz) / 1000;
     if samples == 0 {
         return 255;
     }
-    ((255 + (samples - 1)) / samples) as u8
+    255u32.div_ceil(samples) as u8
 }

@@ -5,15 +5,14 @@ use native.Mathlib.Numerals.{add-one}
 use native.Mathlib.Omega.{arith}
 use mathlib.Core.Path.{◌≡◌, refl, ap, sym, ◌∙◌}
 use mathlib.Core.Bool.{Bool, true, false, cond, not}
-use mathlib.Core.List.{List, [], ◌∷◌, flat_map, append-nil}
+use mathlib.Core.List.{List, [], ◌∷◌, flat_map, ◌++◌, append-nil, append_assoc}
 use lib.Dec.{leb, leb-zero, leb-suc-zero, leb-suc-suc}
-use lib.ListN.{length, get_or, set, drop, replicate, get_or-replicate, length-set, drop_of_length-le}
-use lib.Seq.{sets, drop-cons}
+use lib.ListN.{length, get_or, set, take, drop, replicate, get_or-replicate, length-set, drop_of_length-le}
+use lib.Seq.{drop-cons, drop-set-lt, take_all, take-suc-set}
 use borrow.Author.Tests.{le-leb, lt-leb}
 use Rattle.error.specs.Told.{value}
 use Rattle.laws.specs.Lists.{All}
 use Rattle.laws.proofs.Lists.{all-imp, all-get, all_replicate}
-use Rattle.laws.proofs.Stores.{sets-front}
 use Rattle.counts.specs.Counts.{fronts, lists, how_many, turned_away, counted_by, counted}
 use Rattle.counts.specs.Rows.{longer_from, longer, row_of, Small}
 use Rattle.counts.proofs.Laws.{Within, counted-within, all-refused, none-refused, add-up}
@@ -102,47 +101,45 @@ row_counts high low (suc n) voices h =
     longer-get high low (row_of high low n) voices (omega (arith, row-length high low n))
     ∙ rw (row_counts high low n (voices - 1) (omega arith), row_counts high low n voices h) (sym (flat-many high low voices (lists (low + high) n)))
 
--- ---- the loop that makes the next row
--- what is left to store gives the row
+-- ---- the loop that makes the next row in the row's place
+-- what is made, and then what is made of the rest
 pub record Lengthening (high low : ℕ) (row : List ℕ) (j before : ℕ) (out : List ℕ) : Type 0 where
-  pub within : j ≤ 9
   pub long : length out ≡ 9
   pub small : before ≤ 16384
-  pub same : sets out j (longer_from high low before (drop j row)) ≡ longer high low row
+  pub each : All (λ x. x ≤ 16384) (drop j out)
+  pub same : take j out ++ longer_from high low before (drop j out) ≡ longer high low row
 
 pub product_small : (a x : ℕ) → a ≤ 4 → x ≤ 16384 → a * x ≤ 65536
 product_small a x h g = mul-le-mul h g
 
-module _ (high low : ℕ) (row : List ℕ) (s : Small high low row) (e : length row ≡ 9) where
-  pub row_small : (j : ℕ) → j < 9 → get_or row j 0 ≤ 16384
-  row_small j h = all-get (λ x. x ≤ 16384) row j 0 s.each (omega arith)
+module _ (high low : ℕ) (row : List ℕ) where
+  pub lengthening-start : Small high low row → length row ≡ 9 → Lengthening high low row 0 (get_or row 0 0) row
+  lengthening-start s e =
+      record { long = e; small = all-get (λ x. x ≤ 16384) row 0 0 s.each (omega arith); each = s.each; same = refl }
 
-  pub lengthening-start : Lengthening high low row 0 (get_or row 0 0) row
-  lengthening-start =
-      let l = longer-length high low (get_or row 0 0) row in
-      record {
-        within = omega arith;
-        long = e;
-        small = row_small 0 (omega arith);
-        same =
-            sets-front row (longer high low row) 9 (l ∙ e) (omega arith)
-            ∙ rw (drop_of_length-le row {i = 9} (omega arith)) (append-nil (longer high low row));
-      }
+  pub here_small : (j before : ℕ) (out : List ℕ) → Lengthening high low row j before out → j < 9 → get_or out j 0 ≤ 16384
+  here_small j before out g h = (rw (drop-cons out j 0 (omega (arith, g.long))) at g.each).0
 
   pub lengthening-step : (j before : ℕ) (out : List ℕ) → Lengthening high low row j before out → j < 9
-      → Lengthening high low row (j + 1) (get_or row j 0) (set out j (high * before + low * get_or row j 0))
+      → Lengthening high low row (j + 1) (get_or out j 0) (set out j (high * before + low * get_or out j 0))
   unfolding longer_from
   lengthening-step j before out g h =
+      let d = drop-cons out j 0 (omega (arith, g.long)) in
+      let v = high * before + low * get_or out j 0 in
+      let r = drop-set-lt (suc j) out j v (omega arith) in
+      let t = take-suc-set out j v (omega (arith, g.long)) in
       record {
-        within = omega arith;
         long = length-set out j _ ∙ g.long;
-        small = row_small j h;
-        same = rw add-one (rw (drop-cons row j 0 (omega arith)) at g.same);
+        small = here_small j before out g h;
+        each = rw (add-one, r) (rw d at g.each).1;
+        same = rw (add-one, t, r, append_assoc) (rw d at g.same);
       }
 
   pub lengthening-end : (j before : ℕ) (out : List ℕ) → Lengthening high low row j before out → 9 ≤ j → out ≡ longer high low row
   unfolding longer_from
-  lengthening-end j before out g h = rw (drop_of_length-le row {i = j} (omega arith)) at g.same
+  lengthening-end j before out g h =
+      let l : length out ≤ j = omega (arith, g.long) in
+      rw (drop_of_length-le out {i = j} l, take_all j out l, append-nil out) at g.same
 
 -- ---- the loop over the requests: after n of them no count is above 4 to the power n
 longer-sum : (bound high low x y : ℕ) → high + low ≤ 4 → x ≤ bound → y ≤ bound → high * x + low * y ≤ 4 * bound
@@ -193,20 +190,21 @@ module _ {voices k n p : ℕ} (w : Within voices k n p) where
   row-all : get_or (row_of (k - p) p n) 0 0 ≡ k ^ n
   row-all = row_at 0 (omega arith) ∙ all-refused k n p
 
-  -- the first count is right, and the two add up: so is the second
-  answer : (a b : ℕ) → a ≡ (counted_by (turned_away voices p) k n).refused → a + b ≡ k ^ n → value (record { refused = a; accepted = b }) ≡ counted voices k n p
-  unfolding counted_by
-  answer a b e f =
-      let g = (add-up (turned_away voices p) k n).all in
-      let h : b ≡ how_many (λ l. not (turned_away voices p l)) (lists k n) = omega (arith, g, e, f) in
-      sym (counted-within w ∙ rw (← e, ← h))
+  pub none-kept : n < voices → 0 ≡ (counted_by (turned_away voices p) k n).refused
+  none-kept h = sym (none-refused voices k n p h)
 
-  pub answer-none : n < voices → value (record { refused = 0; accepted = get_or (row_of (k - p) p n) 0 0 }) ≡ counted voices k n p
-  answer-none h = answer 0 (get_or (row_of (k - p) p n) 0 0) (sym (none-refused voices k n p h)) (omega (arith, row-all))
+  pub some-kept : voices ≤ n → get_or (row_of (k - p) p n) voices 0 ≡ (counted_by (turned_away voices p) k n).refused
+  some-kept h = row_at voices (omega (arith, w.short))
 
-  pub row_below : voices ≤ n → get_or (row_of (k - p) p n) voices 0 ≤ get_or (row_of (k - p) p n) 0 0
-  row_below h = omega (arith, row_at voices (omega (arith, w.short)), row-all, (add-up (turned_away voices p) k n).all)
+  module _ (a : ℕ) (e : a ≡ (counted_by (turned_away voices p) k n).refused) where
+    pub refused_below : a ≤ get_or (row_of (k - p) p n) 0 0
+    refused_below = omega (arith, e, row-all, (add-up (turned_away voices p) k n).all)
 
-  pub answer-some : voices ≤ n
-      → value (record { refused = get_or (row_of (k - p) p n) voices 0; accepted = get_or (row_of (k - p) p n) 0 0 - get_or (row_of (k - p) p n) voices 0 }) ≡ counted voices k n p
-  answer-some h = answer _ _ (row_at voices (omega (arith, w.short))) (omega (arith, row_below h, row-all))
+    -- the first count is right, and the two add up: so is the second
+    pub answer : value (record { refused = a; accepted = get_or (row_of (k - p) p n) 0 0 - a }) ≡ counted voices k n p
+    unfolding counted_by
+    answer =
+        let g = (add-up (turned_away voices p) k n).all in
+        let b = get_or (row_of (k - p) p n) 0 0 - a in
+        let h : b ≡ how_many (λ l. not (turned_away voices p l)) (lists k n) = omega (arith, g, e, row-all) in
+        sym (counted-within w ∙ rw (← e, ← h))

@@ -2,11 +2,8 @@
 -- accepted." Assumes nothing.
 use Rattle.std.specs.Prelude.{ℕ, zero, suc, ◌+◌, ◌^◌, ◌≡◌, Bool, cond, not, ◌||◌, leb, ltb}
 use mathlib.Core.List.{List, [], ◌∷◌, flat_map}
-use Rattle.error.specs.Numbers.{number_of}
 use Rattle.error.specs.Told.{Told, value, refused}
 use Rattle.counts.specs.declared.Counts.{Counts}
-use Rattle.counts.specs.declared.CountsRead.{CountsRead}
-use Rattle.counts.specs.declared.CountsRead.TheVariants as C
 
 -- "k priorities (0 to k − 1)": each of them before a list
 unfoldable pub fronts : ℕ → List ℕ → List (List ℕ)
@@ -38,10 +35,6 @@ uncounted voices k n p = ltb k 1 || ltb 4 k || ltb 8 n || ltb 16 voices || leb k
 
 unfoldable pub counted : ℕ → ℕ → ℕ → ℕ → Told Counts
 counted voices k n p = cond (uncounted voices k n p) (refused 22) (value (counted_by (turned_away voices p) k n))
-
-abbrev pub told_counts : CountsRead → Told Counts
-told_counts (C.Counts c) = value c
-told_counts (C.Refused e) = refused (number_of e)
 
 -- "The two add up to k to the power n"
 pub record AddUp (k n : ℕ) (c : Counts) : Type 0 where

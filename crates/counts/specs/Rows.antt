@@ -1,5 +1,5 @@
 -- Inner: the counts for lists of one length as a row: at place j, how many have at least j requests at or above the priority
--- (Laws.row-counts says that they are what trying every list gives). high of the priorities are at or above it, low are below. Assumes nothing.
+-- (Rows.row_counts says that they are what trying every list gives). high of the priorities are at or above it, low are below. Assumes nothing.
 use Rattle.std.specs.Prelude.{ℕ, zero, suc, ◌+◌, ◌*◌, ◌≤◌, List, [], ◌∷◌, get_or, replicate}
 use Rattle.laws.specs.Lists.{All}
 

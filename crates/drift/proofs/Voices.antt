@@ -7,10 +7,10 @@ use mathlib.Core.Logic.{◌⊎◌, inl, inr}
 use mathlib.Core.Bool.{Bool, true, false, cond}
 use borrow.Author.Tests.{eqb-false, ne_eqb}
 use lib.Dec.{eqb}
+use Rattle.std.specs.Prelude.{Some}
 use Rattle.laws.specs.Durations.{samples_of}
 use Rattle.laws.specs.Runs.{after}
 use Rattle.polyblep.specs.Oscillators.{new_oscillator, later, sample_of, voice_of, started_voice, stepped_voice, float_given}
-use Rattle.polyblep.specs.declared.FloatGiven.TheVariants as F
 use Rattle.polyblep.specs.declared.PolyBlepOscillator.{PolyBlepOscillator}
 use Rattle.polyblep.specs.declared.PolyBlepVoice.{PolyBlepVoice}
 use Rattle.polyblep.specs.declared.PolyBlepWaveform.{PolyBlepWaveform}
@@ -63,7 +63,7 @@ voice-after o (suc n) k left h =
     let e : suc k + n ≡ k + suc n = omega arith in
     rw (stepped k o left (enough-some n left h)) (rw e at (voice-after o n (suc k) (less_one left) (enough-less n left h)))
 
-given-sample : (o : PolyBlepOscillator) (left : ℕ) → (left ≡ 0 → ⊥) → float_given (sounding o left) ≡ F.Sample (sample_of o)
+given-sample : (o : PolyBlepOscillator) (left : ℕ) → (left ≡ 0 → ⊥) → float_given (sounding o left) ≡ Some (sample_of o)
 unfolding float_given
 given-sample o left h = rw (ne_eqb left 0 h)
 

@@ -1,9 +1,8 @@
 -- A voice gives the samples of the oscillator that its start makes, one a request, for as long as it lasts. Assumes nothing.
-use Rattle.std.specs.Prelude.{ℕ, suc, ◌≤◌, ◌≡◌, ◌⊎◌}
+use Rattle.std.specs.Prelude.{ℕ, suc, ◌≤◌, ◌≡◌, ◌⊎◌, Some}
 use Rattle.laws.specs.Durations.{samples_of}
 use Rattle.laws.specs.Runs.{after}
 use Rattle.polyblep.specs.Oscillators.{new_oscillator, later, sample_of, started_voice, stepped_voice, float_given}
-use Rattle.polyblep.specs.declared.FloatGiven.TheVariants as F
 use Rattle.polyblep.specs.declared.PolyBlepVoice.{PolyBlepVoice}
 use Rattle.polyblep.specs.declared.PolyBlepWaveform.{PolyBlepWaveform}
 
@@ -17,4 +16,4 @@ requested hz ms w rate n = after stepped_voice n (started_voice hz ms w rate)
 
 pub record Follows (hz ms : ℕ) (w : PolyBlepWaveform) (rate : ℕ) : Type 0 where
   pub phase : (n : ℕ) → Lasts ms rate n → (requested hz ms w rate n).osc ≡ later n (new_oscillator hz rate w)
-  pub sample : (n : ℕ) → Lasts ms rate (suc n) → float_given (requested hz ms w rate n) ≡ F.Sample (sample_of (later n (new_oscillator hz rate w)))
+  pub sample : (n : ℕ) → Lasts ms rate (suc n) → float_given (requested hz ms w rate n) ≡ Some (sample_of (later n (new_oscillator hz rate w)))

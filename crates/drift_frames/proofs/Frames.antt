@@ -1,4 +1,5 @@
 -- Each frame takes one sample of a PolyBLEP voice in place 0, and settings take none. Assumes nothing.
+use Rattle.std.specs.Prelude.{None, Some}
 use Prim.Native.Nat.{ℕ, zero, suc, ◌<◌}
 use mathlib.Core.Path.{◌≡◌, refl, sym, ap, ◌∙◌}
 use mathlib.Core.Bool.{Bool, true, false, cond}
@@ -13,7 +14,6 @@ use Rattle.frame.specs.Frames.{enveloped, sampled, sampled_count, mono_frame, mo
 use Rattle.frame.proofs.Voices.{framed_at}
 use Rattle.mixer.specs.Mixers.{voice_read, panned, panned_at, with_master_gain}
 use Rattle.mixer.specs.declared.Mixer.{Mixer}
-use Rattle.mixer.specs.declared.VoiceRead.TheVariants as R
 use Rattle.polyblep.specs.Oscillators as B
 use Rattle.polyblep.specs.declared.PolyBlepVoice.{PolyBlepVoice}
 use Rattle.voice.specs.Rests.{framed}
@@ -83,7 +83,7 @@ ready-pan : (m : Mixer) (i p : ℕ) (b : PolyBlepVoice) → Ready m b → Ready 
 unfolding panned voice_read
 ready-pan m i p b h = by_place (ltb i m.n)
   where
-    by_place : (t : Bool) → Ready (panned_at m i p (cond t (R.Voice (get_or m.voices i (silent_voice 0))) R.None)) b
+    by_place : (t : Bool) → Ready (panned_at m i p (cond t (Some (get_or m.voices i (silent_voice 0))) None)) b
     by_place true =
         record {
           some = h.some;

@@ -11,6 +11,7 @@ use Rattle.requests.proofs.Demand3.{by-rule}
 use Rattle.engine.specs.Engines.{ValidEngine, boxed}
 use Rattle.engine.specs.Requests.{player}
 use Rattle.engine.specs.declared.AudioEngine.{AudioEngine}
+use Rattle.error.specs.Told.{told}
 
 -- so `requests` demand-3 and sound-accepted hold of it
 pub lawful : Lawful player

@@ -5,12 +5,11 @@ use mathlib.Core.Bool.{true}
 use mathlib.Core.List.{List, map}
 use lib.ListN.{replicate}
 use Rattle.envelope.specs.declared.AdsrSpec.{AdsrSpec}
-use Rattle.error.specs.Told.{passed}
+use Rattle.error.specs.Told.{told, passed}
 use Rattle.frame.specs.Fades.{advanced}
 use Rattle.frame.specs.Frames.{old_marks}
 use Rattle.frame.specs.Lasting.{frames_left, SameFade, Step, frame, call, after_all, unbroken, Lasts}
 use Rattle.laws.specs.Runs.{after}
-use Rattle.mixer.specs.Mixers.{told_outcome}
 use Rattle.start.specs.declared.Request.{Request}
 use Rattle.steps.specs.Steps.{Frame, mono, duty, stereo, Call, play, tone, poly_blep, bank, pan, master_gain, stop, fade, look, called_mixer, ByRule}
 use Rattle.steps.proofs.Calls.{same}
@@ -42,7 +41,7 @@ by-rule : ByRule stepper
 by-rule = record { advances = advances; calls = calls }
 
 -- ---- T-02
-pub fade-takes : (e : AudioEngine) (bytes : List ℕ) (id ms : ℕ) (adsr : AdsrSpec) → told_outcome (fading e bytes id ms adsr).outcome ≡ passed → FadeTakes e bytes id ms adsr
+pub fade-takes : (e : AudioEngine) (bytes : List ℕ) (id ms : ℕ) (adsr : AdsrSpec) → told (fading e bytes id ms adsr).outcome ≡ passed → FadeTakes e bytes id ms adsr
 fade-takes e bytes id ms adsr a = S.fade-takes stepper by-rule e bytes id ms adsr a
 
 -- of a fade under way, what is left of it

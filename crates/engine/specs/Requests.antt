@@ -1,13 +1,14 @@
 -- Demand 3 of the engine: it is a box that takes play requests (`requests`). Assumes nothing.
 use Rattle.std.specs.Prelude.{ℕ, List}
 use Rattle.std.proofs.Math.Option.{Option}
-use Rattle.play.specs.Plays.{played, told_play}
+use Rattle.play.specs.Plays.{played}
 use Rattle.requests.specs.Players as R
 use Rattle.requests.specs.Slices as L
 use Rattle.start.specs.declared.Request.{Request}
 use Rattle.engine.specs.Engines.{ValidEngine, played_box}
 use Rattle.engine.specs.declared.AudioEngine.{AudioEngine}
 use Rattle.engine.specs.declared.EnginePlayed.{EnginePlayed}
+use Rattle.error.specs.Told.{told}
 
 -- the play call, as its contract has it
 abbrev pub playing : AudioEngine → List ℕ → Request → EnginePlayed
@@ -18,7 +19,7 @@ abbrev pub player : R.Player AudioEngine
 player =
     record {
       mixer = λ e. e.state;
-      told = λ e bytes r. told_play (playing e bytes r).outcome;
+      told = λ e bytes r. told (playing e bytes r).outcome;
       next = λ e bytes r. (playing e bytes r).engine;
     }
 

@@ -2,10 +2,10 @@
 #![tactic(auto)]
 
 ghost use Rattle.std.specs.Prelude.{◌≡◌, length};
+ghost use Rattle.error.specs.Told.{told};
 ghost use Rattle.laws.specs.Made.{Made};
 ghost use Rattle.allocate.specs.Allocation.{allocated, told_place};
-ghost use Rattle.bank.specs.Banks.{payload_given, told_payload, payload_part};
-ghost use Rattle.bank.specs.Entries.{told_entry};
+ghost use Rattle.bank.specs.Banks.{payload_given, payload_part};
 ghost use Rattle.bank.specs.Search.{found_given};
 ghost use Rattle.frame.specs.Lasting.{frames_left};
 ghost use Rattle.mixer.specs.Mixers as M;
@@ -13,15 +13,15 @@ ghost use Rattle.play.specs.Plays.{played, toned, poly_bleped};
 ghost use Rattle.play.specs.Fades.{faded};
 ghost use Rattle.engine.specs.Engines.{ValidEngine, ValidEngineChanged, ValidEnginePlayed, boxed, changed_box, played_box, request_of};
 
-use allocate::Allocated;
-use bank::{EntryRead, PayloadRead};
+use bank::EffectEntry;
 use config::AudioConfig;
 use envelope::AdsrSpec;
-use mixer::{Mixer, Outcome, PanRead, VoiceRead, VoiceStealingPolicy};
-use play::PlayOutcome;
+use error::AudioError;
+use mixer::{Mixer, VoiceStealingPolicy};
 use polyblep::PolyBlepWaveform;
 use start::Request;
 use tone::Waveform;
+use voice::Voice;
 
 pub mod fills;
 mod lists;
@@ -36,14 +36,14 @@ pub struct AudioEngine {
 // An engine, and whether the call was refused.
 #[derive(Clone, Copy)]
 pub struct EngineChanged {
-    pub outcome: Outcome,
+    pub outcome: Result<(), AudioError>,
     pub engine: AudioEngine,
 }
 
 // An engine, and the voice that the request got.
 #[derive(Clone, Copy)]
 pub struct EnginePlayed {
-    pub outcome: PlayOutcome,
+    pub outcome: Result<usize, AudioError>,
     pub engine: AudioEngine,
 }
 
@@ -104,7 +104,7 @@ impl AudioEngine {
         m.is_playing()
     }
 
-    pub fn voice(self, idx: usize) -> VoiceRead
+    pub fn voice(self, idx: usize) -> Option<Voice>
         requires { ValidEngine self }
         ensures { result ≡ M.voice_read self.state idx }
     {
@@ -112,7 +112,7 @@ impl AudioEngine {
         m.voice(idx)
     }
 
-    pub fn voice_pan(self, idx: usize) -> PanRead
+    pub fn voice_pan(self, idx: usize) -> Option<u8>
         requires { ValidEngine self }
         ensures { result ≡ M.pan_read self.state idx }
     {
@@ -162,7 +162,7 @@ impl AudioEngine {
         }
     }
 
-    pub fn allocate_voice(self, priority: u8) -> Allocated
+    pub fn allocate_voice(self, priority: u8) -> Option<usize>
         requires { ValidEngine self }
         ensures { told_place result ≡ allocated self.state priority }
     {
@@ -170,17 +170,17 @@ impl AudioEngine {
         allocate::allocate_voice(m, priority)
     }
 
-    pub fn find_by_id(self, bytes: &[u8], id: u16) -> EntryRead
+    pub fn find_by_id(self, bytes: &[u8], id: u16) -> Result<EffectEntry, AudioError>
         requires { ValidEngine self }
-        ensures { told_entry result ≡ found_given self.state.bank bytes.now id }
+        ensures { told result ≡ found_given self.state.bank bytes.now id }
     {
         let m = self.state;
         let bank = m.bank;
         bank::find_by_id(bank, bytes, id)
     }
 
-    pub fn payload_number(self, bytes: &[u8], offset: u32, len: u32) -> PayloadRead
-        ensures { told_payload result ≡ payload_given self.state.bank bytes.now offset len }
+    pub fn payload_number(self, bytes: &[u8], offset: u32, len: u32) -> Result<(), AudioError>
+        ensures { told result ≡ payload_given self.state.bank bytes.now offset len }
     {
         let m = self.state;
         let bank = m.bank;

@@ -1,4 +1,5 @@
 -- What becomes of the requests in line at the start of a frame. Assumes nothing.
+use Rattle.std.specs.Prelude.{Option}
 use Prim.Native.Nat.{ℕ, zero, suc, ◌≤◌}
 use native.Mathlib.Omega.{arith}
 use mathlib.Core.Path.{◌≡◌, refl, ap, sym, ◌∙◌}
@@ -22,7 +23,6 @@ use Rattle.start.proofs.Laws.{request-heard}
 use Rattle.voice.specs.Voices.{audible}
 use Rattle.voice.specs.declared.Voice.{Voice}
 use Rattle.waiting.specs.Lines.{in_line}
-use Rattle.waiting.specs.declared.Kept.{Kept}
 use Rattle.waiting.specs.declared.Waiting.{Waiting}
 use Rattle.waiting.proofs.Lists.{by-test}
 use Rattle.waiting.proofs.Laws.{in-line-of}
@@ -32,15 +32,16 @@ use Rattle.entering.specs.Fates.{WentIn, Fate, Tried, Tries, over, next, noted, 
 use Rattle.entering.specs.declared.Lined.{Lined}
 use Rattle.entering.proofs.Free.{FirstFree, is-first, first-free, free-given}
 use Rattle.entering.proofs.Laws.{entered-none, entered-free, entered-busy}
+use Rattle.error.specs.declared.AudioError.{AudioError}
 
 -- ---- one request
 -- what it is told, and what it leaves
-record Fated (bytes : List ℕ) (p : Present) (w : Waiting) (k : Kept) : Type 0 where
+record Fated (bytes : List ℕ) (p : Present) (w : Waiting) (k : Option (AudioError × ℕ)) : Type 0 where
   told : Told ℕ
   fate : Fate bytes p w told (played_present p bytes w.request).present
   kept : kept_after (played_present p bytes w.request).outcome w.label k ≡ noted k w.label told
 
-fated : (bytes : List ℕ) (p : Present) (w : Waiting) (k : Kept) (i : ℕ) → first_free audible (voices_of p.mixer) ≡ some i → Fated bytes p w k
+fated : (bytes : List ℕ) (p : Present) (w : Waiting) (k : Option (AudioError × ℕ)) (i : ℕ) → first_free audible (voices_of p.mixer) ≡ some i → Fated bytes p w k
 unfolding played_under
 fated bytes p w k i e = go (request_start_under true p.mixer.bank bytes w.request) refl
   where
@@ -126,14 +127,14 @@ module _ (bytes : List ℕ) where
       tries-ringing r i f.voice g h.0
 
 -- ---- all of them
-record Goes (bytes : List ℕ) (p : Present) (k : Kept) (ws : List Waiting) (after : Lined) : Type 0 where
+record Goes (bytes : List ℕ) (p : Present) (k : Option (AudioError × ℕ)) (ws : List Waiting) (after : Lined) : Type 0 where
   tried : List Tried
   tries : Tries bytes p tried after.present
   line : map (λ t. t.who) tried ++ in_line after.line ≡ ws
   kept : after.kept ≡ latest k tried
   ends : (in_line after.line ≡ []) ⊎ (voice_free after.present ≡ false)
 
-goes : (bytes : List ℕ) (ws : List Waiting) (p : Present) (k : Kept) → p.mixer.n ≤ length p.mixer.voices → Goes bytes p k ws (entered bytes p k ws)
+goes : (bytes : List ℕ) (ws : List Waiting) (p : Present) (k : Option (AudioError × ℕ)) → p.mixer.n ≤ length p.mixer.voices → Goes bytes p k ws (entered bytes p k ws)
 goes bytes [] p k h =
     rw (entered-none bytes p k) (record { tried = []; tries = over; line = in-line-of []; kept = refl; ends = inl (in-line-of []) })
 goes bytes (w ∷ ws) p k h =

@@ -1,4 +1,5 @@
 -- The start of a frame where nothing happens, and a turn of its loop. Assumes nothing.
+use Rattle.std.specs.Prelude.{Option}
 use Prim.Native.Nat.{ℕ, ◌≤◌}
 use native.Mathlib.Omega.{arith}
 use lib.ListN.{length, take}
@@ -10,15 +11,15 @@ use Rattle.requests.specs.Presents.{played_present}
 use Rattle.start.specs.declared.Request.{Request}
 use Rattle.waiting.specs.Lines as W
 use Rattle.waiting.specs.Lines.{in_line, line_of, without, Apart, Falls}
-use Rattle.waiting.specs.declared.Kept.{Kept}
 use Rattle.waiting.specs.declared.Waiting.{Waiting}
 use Rattle.waiting.proofs.Laws.{own, in-line-of, without-first, valid-line, length-line}
 use Rattle.waiting.proofs.Lists.{by-test}
 use Rattle.entering.specs.Lined.{lined}
 use Rattle.entering.specs.Entering.{voice_free, kept_after, entered, entered_in, tried_in}
 use Rattle.entering.specs.declared.Lined.{Lined}
+use Rattle.error.specs.declared.AudioError.{AudioError}
 
-module _ (bytes : List ℕ) (p : Present) (k : Kept) where
+module _ (bytes : List ℕ) (p : Present) (k : Option (AudioError × ℕ)) where
   pub entered-none : entered bytes p k [] ≡ lined p k (line_of [])
   unfolding entered
   entered-none = refl
@@ -39,7 +40,7 @@ none-enters bytes s e = ap (λ (n : ℕ). entered bytes s.present s.kept (take n
 
 -- what a play request to a state with a free voice keeps, the start of a frame keeps
 module _ (bytes : List ℕ) (Q : Present → Type 0) (keeps : (p : Present) (r : Request) → voice_free p ≡ true → Q p → Q (played_present p bytes r).present) where
-  entered-keeps : (ws : List Waiting) (p : Present) (k : Kept) → Q p → Q (entered bytes p k ws).present
+  entered-keeps : (ws : List Waiting) (p : Present) (k : Option (AudioError × ℕ)) → Q p → Q (entered bytes p k ws).present
   entered-keeps [] p k h = rw (entered-none bytes p k) h
   entered-keeps (w ∷ ws) p k h =
       let q = played_present p bytes w.request in
@@ -74,7 +75,7 @@ module _ (bytes : List ℕ) (s : Lined) (h : W.Valid s.line) where
         ∙ ap (entered bytes q.present (kept_after q.outcome w.label s.kept)) (sym tried-line)
 
 -- the line that is left is valid
-pub valid-left : (bytes : List ℕ) (ws : List Waiting) (p : Present) (k : Kept) → length ws ≤ 32 → Apart ws → Falls ws → W.Valid (entered bytes p k ws).line
+pub valid-left : (bytes : List ℕ) (ws : List Waiting) (p : Present) (k : Option (AudioError × ℕ)) → length ws ≤ 32 → Apart ws → Falls ws → W.Valid (entered bytes p k ws).line
 valid-left bytes [] p k h a f = rw (entered-none bytes p k) (valid-line [] h a f)
 valid-left bytes (w ∷ ws) p k h a f =
     by-test voice_free p

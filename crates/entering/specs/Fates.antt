@@ -1,5 +1,5 @@
 -- What becomes of the requests in line at the start of a frame: none is lost. Assumes nothing.
-use Rattle.std.specs.Prelude.{ℕ, ◌≡◌, true, false, List, [], ◌∷◌, ◌++◌, map, ◌⊎◌, set}
+use Rattle.std.specs.Prelude.{ℕ, ◌≡◌, true, false, List, [], ◌∷◌, ◌++◌, map, ◌⊎◌, set, Option, Some}
 use Rattle.std.proofs.Math.Option.{some}
 use Rattle.std.proofs.Math.ListN.{get_elem?}
 use Rattle.error.specs.Told.{Told, value, refused, refusal}
@@ -11,11 +11,10 @@ use Rattle.start.specs.Starts.{request_start_under}
 use Rattle.voice.specs.Voices.{audible}
 use Rattle.voice.specs.declared.Voice.{Voice}
 use Rattle.waiting.specs.Lines.{in_line}
-use Rattle.waiting.specs.declared.Kept.{Kept}
-use Rattle.waiting.specs.declared.Kept.TheVariants as K
 use Rattle.waiting.specs.declared.Waiting.{Waiting}
 use Rattle.entering.specs.Entering.{voice_free}
 use Rattle.entering.specs.declared.Lined.{Lined}
+use Rattle.error.specs.declared.AudioError.{AudioError}
 
 -- A request that went in: at the first inaudible voice, whatever the policy, which is as entry start makes it; it was started, and so is the youngest.
 pub record WentIn (bytes : List ℕ) (p : Present) (w : Waiting) (i : ℕ) (after : Present) : Type 0 where
@@ -46,11 +45,11 @@ pub data Tries (bytes : List ℕ) : Present → List Tried → Present → Type 
       → Tries bytes p (t ∷ ts) after
 
 -- "the latest such refusal is kept for reading with its label"
-abbrev pub noted : Kept → ℕ → Told ℕ → Kept
+abbrev pub noted : Option (AudioError × ℕ) → ℕ → Told ℕ → Option (AudioError × ℕ)
 noted k label (value i) = k
-noted k label (refused n) = K.Refusal (refusal n) label
+noted k label (refused n) = Some (refusal n, label)
 
-abbrev pub latest : Kept → List Tried → Kept
+abbrev pub latest : Option (AudioError × ℕ) → List Tried → Option (AudioError × ℕ)
 latest k [] = k
 latest k (t ∷ ts) = latest (noted k t.who.label t.told) ts
 

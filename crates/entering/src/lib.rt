@@ -7,16 +7,16 @@ ghost use Rattle.marks.specs.Marks as M;
 ghost use Rattle.entering.specs.Lined.{Valid};
 ghost use Rattle.entering.specs.Entering.{voice_free, kept_after, tried_in, entered_in};
 
+use error::AudioError;
 use marks::Present;
-use play::PlayOutcome;
-use waiting::{Kept, Line, Waiting};
+use waiting::{Line, Waiting};
 
 // A state of the present rules, the requests that wait, and why the latest that was dropped was refused.
 #[derive(Clone, Copy)]
 pub struct Lined {
     pub present: Present,
     pub line: Line,
-    pub kept: Kept,
+    pub kept: Option<(AudioError, u16)>,
 }
 
 // Whether one of the N voices is inaudible.
@@ -28,12 +28,16 @@ pub fn voice_free(p: Present) -> bool
     m.active_voice_count() < m.n
 }
 
-fn kept_after(outcome: PlayOutcome, label: u16, kept: Kept) -> Kept
+fn kept_after(
+    outcome: Result<usize, AudioError>,
+    label: u16,
+    kept: Option<(AudioError, u16)>,
+) -> Option<(AudioError, u16)>
     ensures { result ≡ kept_after outcome label kept }
 {
     match outcome {
-        PlayOutcome::Voice(_) => kept,
-        PlayOutcome::Refused(e) => Kept::Refusal(e, label),
+        Ok(_) => kept,
+        Err(e) => Some((e, label)),
     }
 }
 

@@ -2,6 +2,7 @@
 use Prim.Native.Nat.{ℕ, ◌+◌, ◌*◌, ◌≤◌, ◌<◌}
 use mathlib.Core.Path.{◌≡◌, refl, sym, ap, ◌∙◌}
 use mathlib.Core.Bool.{Bool, true, false, cond}
+use mathlib.Core.Logic.{◌⊎◌, inl, inr}
 use native.Mathlib.Nat.{le_trans, mul-le-mul_left, mul-le-mul_right}
 use native.Mathlib.Omega.{arith}
 use borrow.Author.Tests.{ltb-true, eqb-false, lt-ltb, le-ltb}
@@ -127,6 +128,13 @@ pub idle-inactive : (spec : AdsrSpec) (rate : ℕ) → active (idle_adsr spec ra
 unfolding active
 idle-inactive spec rate = refl
 
+pub active_unless_idle : (p : AdsrPhase) → (p ≡ P.Idle → ⊥) → active_in p ≡ true
+active_unless_idle P.Attack d = refl
+active_unless_idle P.Decay d = refl
+active_unless_idle P.Sustain d = refl
+active_unless_idle P.Release d = refl
+active_unless_idle P.Idle d = absurd (d refl)
+
 inactive-idle : (p : AdsrPhase) → active_in p ≡ false → p ≡ P.Idle
 inactive-idle P.Attack e = never (sym e)
 inactive-idle P.Decay e = never (sym e)
@@ -137,3 +145,9 @@ inactive-idle P.Idle e = refl
 pub ticked-inactive : {a : Adsr} → active a ≡ false → ticked a ≡ a
 unfolding active ticked
 ticked-inactive {a} e = rw (inactive-idle a.phase e)
+
+-- a tick leaves what counts nothing as it is
+pub ticked-still : {a : Adsr} → (a.phase ≡ P.Sustain) ⊎ (a.phase ≡ P.Idle) → ticked a ≡ a
+unfolding ticked
+ticked-still (inl e) = rw e
+ticked-still (inr e) = rw e

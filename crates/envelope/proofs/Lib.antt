@@ -7,3 +7,4 @@ pub mod Levels
 pub mod Laws
 pub mod Ticks
 pub mod Rests
+mod Parts

@@ -129,7 +129,8 @@ running P.Release = true
 running P.Sustain = false
 running P.Idle = false
 
--- what every envelope that a call takes or gives has; in a phase that counts, "c = length" has not been reached
+-- What every envelope that a call takes or gives has. No ghost field says it: each definition that builds such a record would hold a proof.
+-- In a phase that counts, "c = length" has not been reached
 pub record Valid (a : Adsr) : Type 0 where
   pub rate : a.sample_rate_hz ≤ 65537
   pub counts : running a.phase ≡ true → a.samples_in_phase < a.phase_length_samples

@@ -13,9 +13,7 @@ fn hold(level: u8, at: usize, n: usize, out: &mut [u8; 256])
     requires { at + n ≤ 256 }
     ensures { out.new ≡ sets out.old at (replicate n level) }
 {
-    for j in 0..n {
-        out[at + j] = level;
-    }
+    out[at..at + n].fill(level);
 }
 
 // How many counts, at most n, stay below the length.
@@ -23,8 +21,7 @@ fn ticks_left(count: u32, length: u32, n: usize) -> usize
     requires { count < length }
     ensures { (result ≤ n) × (count + result < length) }
 {
-    let left = (length - count - 1) as usize;
-    if left < n { left } else { n }
+    ((length - count - 1) as usize).min(n)
 }
 
 impl Adsr {
@@ -37,10 +34,10 @@ impl Adsr {
         let length = self.phase_length_samples;
         let mut level = self.level_q8;
         let mut count = self.samples_in_phase;
-        for j in 0..n {
+        for cell in &mut out[at..at + n] {
             count += 1;
             level = next_level(level, target, count, length);
-            out[at + j] = level;
+            *cell = level;
         }
         Adsr {
             level_q8: level,
@@ -54,13 +51,11 @@ impl Adsr {
         requires { Valid self }
         ensures { (result ≤ n) × Stays result self }
     {
-        let p = self.phase;
-        match p {
-            AdsrPhase::Attack => ticks_left(self.samples_in_phase, self.phase_length_samples, n),
-            AdsrPhase::Decay => ticks_left(self.samples_in_phase, self.phase_length_samples, n),
-            AdsrPhase::Release => ticks_left(self.samples_in_phase, self.phase_length_samples, n),
-            AdsrPhase::Sustain => n,
-            AdsrPhase::Idle => n,
+        match self.phase {
+            AdsrPhase::Attack | AdsrPhase::Decay | AdsrPhase::Release => {
+                ticks_left(self.samples_in_phase, self.phase_length_samples, n)
+            }
+            AdsrPhase::Sustain | AdsrPhase::Idle => n,
         }
     }
 
@@ -70,26 +65,18 @@ impl Adsr {
         ensures made { Made Valid (after ticked n self) result }
         ensures out_after { out.new ≡ sets out.old at (given ticked level_after n self) }
     {
-        let p = self.phase;
-        match p {
+        match self.phase {
             AdsrPhase::Attack => self.ramp(255, at, n, out),
-            AdsrPhase::Decay => {
-                let s = self.spec;
-                self.ramp(s.sustain_q8, at, n, out)
-            }
+            AdsrPhase::Decay => self.ramp(self.spec.sustain_q8, at, n, out),
             AdsrPhase::Release => self.ramp(0, at, n, out),
-            AdsrPhase::Sustain => {
-                hold(self.level_q8, at, n, out);
-                self
-            }
-            AdsrPhase::Idle => {
+            AdsrPhase::Sustain | AdsrPhase::Idle => {
                 hold(self.level_q8, at, n, out);
                 self
             }
         }
     }
 
-    // Ticks within a phase, then one that may end it, until there are as many as asked for.
+    // Ticks within a phase, then one that may end it, until there are as many as asked for. A turn goes n + 1 ticks on, so it is no `for`.
     fn tick_all(self, len: usize, out: &mut [u8; 256]) -> Adsr
         requires { Valid self × (len ≤ 256) }
         ensures made { Made Valid (after ticked len self) result }
@@ -113,13 +100,6 @@ impl Adsr {
         ensures made { Made Valid (after ticked (min len 256) self) result }
         ensures out_after { out.new ≡ given ticked level_after (min len 256) self ++ drop (min len 256) out.old }
     {
-        // A contract says nothing of a lent array's length; as a slice it has one.
-        let cells: &mut [u8] = out;
-        let room = cells.len();
-        if len < room {
-            self.tick_all(len, out)
-        } else {
-            self.tick_all(room, out)
-        }
+        self.tick_all(len.min(256), out)
     }
 }

@@ -6,14 +6,15 @@ ghost use Rattle.laws.specs.Made.{Made};
 ghost use Rattle.error.specs.Told.{Answered};
 ghost use Rattle.laws.specs.Durations.{samples_of};
 ghost use Rattle.envelope.specs.Adsrs.{Valid, click_spec, default_spec, pad_spec, idle_adsr, triggered, released, ticked, began_decay, sustained, ended, advanced_toward, next_level, active};
-ghost use Rattle.envelope.specs.Alone.{ValidEnvelope, opened, told_opened, triggered_envelope, released_envelope, ticked_envelope};
+ghost use Rattle.envelope.specs.Alone.{opened};
 
 use error::AudioError;
+use std::marker::Model;
 
 mod blocks;
 
 // Durations in milliseconds; 0 skips the phase.
-#[derive(Clone, Copy)]
+#[derive(Clone, Copy, Debug, PartialEq, Eq)]
 pub struct AdsrSpec {
     pub attack_ms: u16,
     pub decay_ms: u16,
@@ -33,18 +34,6 @@ impl AdsrSpec {
         }
     }
 
-    // The source's `Default`: no phase lasts.
-    pub fn default() -> AdsrSpec
-        ensures { result ≡ default_spec }
-    {
-        AdsrSpec {
-            attack_ms: 0,
-            decay_ms: 0,
-            sustain_q8: 0,
-            release_ms: 0,
-        }
-    }
-
     pub fn pad() -> AdsrSpec
         ensures { result ≡ pad_spec }
     {
@@ -57,7 +46,21 @@ impl AdsrSpec {
     }
 }
 
-#[derive(Clone, Copy)]
+// No phase lasts. By hand: a derived `default` says nothing of its value.
+impl Default for AdsrSpec {
+    ghost is_default = { λ spec. spec ≡ default_spec };
+
+    fn default() -> AdsrSpec {
+        AdsrSpec {
+            attack_ms: 0,
+            decay_ms: 0,
+            sustain_q8: 0,
+            release_ms: 0,
+        }
+    }
+}
+
+#[derive(Clone, Copy, Debug, PartialEq, Eq)]
 pub enum AdsrPhase {
     Attack,
     Decay,
@@ -67,7 +70,7 @@ pub enum AdsrPhase {
 }
 
 // Where an envelope stands: phase, level 0..255, and the count within the phase.
-#[derive(Clone, Copy)]
+#[derive(Clone, Copy, Debug, PartialEq, Eq)]
 pub struct Adsr {
     pub spec: AdsrSpec,
     pub phase: AdsrPhase,
@@ -82,7 +85,7 @@ fn ms_to_samples(ms: u16, sample_rate_hz: u32) -> u32
     requires { sample_rate_hz ≤ 65537 }
     ensures { result ≡ samples_of ms sample_rate_hz }
 {
-    (ms as u32) * sample_rate_hz / 1000
+    u32::from(ms) * sample_rate_hz / 1000
 }
 
 // Most steps are of no level at all, and those need no division. The product of any length has room in 64 bits.
@@ -90,11 +93,11 @@ fn part(distance: u8, count: u32, length: u32) -> u8
     requires { (0 < length) × (count ≤ length) }
     ensures { result ≡ distance * count / length }
 {
-    let product = (distance as u64) * (count as u64);
-    if product < length as u64 {
+    let product = u64::from(distance) * u64::from(count);
+    if product < u64::from(length) {
         0
     } else {
-        (product / length as u64) as u8
+        (product / u64::from(length)) as u8
     }
 }
 
@@ -136,25 +139,18 @@ impl Adsr {
         self.level_q8
     }
 
+    #[tactic(auto, using(crate::proofs::Laws::active_unless_idle), unfolding(crate::specs::Adsrs::active))]
     pub fn is_active(self) -> bool
         ensures { result ≡ active self }
     {
-        let p = self.phase;
-        match p {
-            AdsrPhase::Attack => true,
-            AdsrPhase::Decay => true,
-            AdsrPhase::Sustain => true,
-            AdsrPhase::Release => true,
-            AdsrPhase::Idle => false,
-        }
+        !matches!(self.phase, AdsrPhase::Idle)
     }
 
     pub fn trigger(self) -> Adsr
         requires { Valid self }
         ensures { Made Valid (triggered self) result }
     {
-        let s = self.spec;
-        let length = ms_to_samples(s.attack_ms, self.sample_rate_hz);
+        let length = ms_to_samples(self.spec.attack_ms, self.sample_rate_hz);
         let a = Adsr {
             phase: AdsrPhase::Attack,
             level_q8: 0,
@@ -170,8 +166,7 @@ impl Adsr {
         ensures { Made Valid (released self) result }
     {
         if self.is_active() {
-            let s = self.spec;
-            let length = ms_to_samples(s.release_ms, self.sample_rate_hz);
+            let length = ms_to_samples(self.spec.release_ms, self.sample_rate_hz);
             if length == 0 {
                 Adsr {
                     phase: AdsrPhase::Idle,
@@ -197,8 +192,7 @@ impl Adsr {
         requires { Valid self }
         ensures { Made Valid (ticked self) result }
     {
-        let p = self.phase;
-        match p {
+        match self.phase {
             AdsrPhase::Attack => {
                 let a = self.advance_toward(255);
                 if a.samples_in_phase >= a.phase_length_samples {
@@ -208,8 +202,7 @@ impl Adsr {
                 }
             }
             AdsrPhase::Decay => {
-                let s = self.spec;
-                let a = self.advance_toward(s.sustain_q8);
+                let a = self.advance_toward(self.spec.sustain_q8);
                 if a.samples_in_phase >= a.phase_length_samples {
                     a.end_decay()
                 } else {
@@ -224,21 +217,20 @@ impl Adsr {
                     a
                 }
             }
-            AdsrPhase::Sustain => self,
-            AdsrPhase::Idle => self,
+            AdsrPhase::Sustain | AdsrPhase::Idle => self,
         }
     }
 
+    #[tactic(auto, using(std::proofs::lemmas::Bool::Decides::nat_tests), unfolding(crate::specs::Adsrs::began_decay))]
     fn begin_decay(self) -> Adsr
         requires { self.sample_rate_hz ≤ 65537 }
         ensures { result ≡ began_decay self }
     {
-        let s = self.spec;
-        let length = ms_to_samples(s.decay_ms, self.sample_rate_hz);
+        let length = ms_to_samples(self.spec.decay_ms, self.sample_rate_hz);
         if length == 0 {
             Adsr {
                 phase: AdsrPhase::Sustain,
-                level_q8: s.sustain_q8,
+                level_q8: self.spec.sustain_q8,
                 samples_in_phase: 0,
                 phase_length_samples: 0,
                 ..self
@@ -256,10 +248,9 @@ impl Adsr {
     fn end_decay(self) -> Adsr
         ensures { result ≡ sustained self }
     {
-        let s = self.spec;
         Adsr {
             phase: AdsrPhase::Sustain,
-            level_q8: s.sustain_q8,
+            level_q8: self.spec.sustain_q8,
             samples_in_phase: 0,
             ..self
         }
@@ -275,6 +266,7 @@ impl Adsr {
         }
     }
 
+    #[tactic(auto, unfolding(crate::specs::Adsrs::advanced_toward))]
     fn advance_toward(self, target: u8) -> Adsr
         requires { self.samples_in_phase < self.phase_length_samples }
         ensures { result ≡ advanced_toward target self }
@@ -290,73 +282,75 @@ impl Adsr {
 }
 
 // An envelope that is opened alone. Its field is private, so that each one comes from the calls below.
-#[derive(Clone, Copy)]
+#[derive(Clone, Copy, Debug, PartialEq, Eq)]
 pub struct Envelope {
     adsr: Adsr,
 }
 
-#[derive(Clone, Copy)]
-pub enum Opened {
-    Envelope(Envelope),
-    Refused(AudioError),
+impl Model for Envelope {
+    ghost use Rattle.envelope.specs.declared.Adsr.{Adsr};
+    ghost use Rattle.envelope.specs.Adsrs.{Valid};
+
+    ghost Value = { Adsr };
+
+    ghost view = { λ e. e.adsr };
+
+    ghost invariant = { λ e. Valid e.adsr };
+
+    ghost inverse = { λ a. record { adsr = a } };
 }
 
 impl Envelope {
-    pub fn open(spec: AdsrSpec, sample_rate_hz: u32) -> Opened
-        ensures { Answered told_opened ValidEnvelope (opened spec sample_rate_hz) result }
+    pub fn open(spec: AdsrSpec, sample_rate_hz: u32) -> Result<Envelope, AudioError>
+        ensures { Answered Valid (opened spec sample_rate_hz) result }
     {
         if sample_rate_hz > 65537 {
-            Opened::Refused(AudioError::BadRate)
-        } else {
-            let adsr = Adsr::new(spec, sample_rate_hz);
-            Opened::Envelope(Envelope { adsr })
+            return Err(AudioError::BadRate);
         }
+        Ok(Envelope {
+            adsr: Adsr::new(spec, sample_rate_hz),
+        })
     }
 
     pub fn trigger(self) -> Envelope
-        requires { ValidEnvelope self }
-        ensures { Made ValidEnvelope (triggered_envelope self) result }
+        ensures { result ≡ triggered self }
     {
-        let a = self.adsr;
-        let adsr = a.trigger();
-        Envelope { adsr }
+        Envelope {
+            adsr: self.adsr.trigger(),
+        }
     }
 
     pub fn release(self) -> Envelope
-        requires { ValidEnvelope self }
-        ensures { Made ValidEnvelope (released_envelope self) result }
+        ensures { result ≡ released self }
     {
-        let a = self.adsr;
-        let adsr = a.release();
-        Envelope { adsr }
+        Envelope {
+            adsr: self.adsr.release(),
+        }
     }
 
     pub fn tick(self) -> Envelope
-        requires { ValidEnvelope self }
-        ensures { Made ValidEnvelope (ticked_envelope self) result }
+        ensures { result ≡ ticked self }
     {
-        let a = self.adsr;
-        let adsr = a.tick();
-        Envelope { adsr }
+        Envelope {
+            adsr: self.adsr.tick(),
+        }
     }
 
     pub fn level(self) -> u8
-        ensures { result ≡ self.adsr.level_q8 }
+        ensures { result ≡ self.level_q8 }
     {
-        let a = self.adsr;
-        a.level_q8
+        self.adsr.level_q8
     }
 
     pub fn active(self) -> bool
-        ensures { result ≡ active self.adsr }
+        ensures { result ≡ active self }
     {
-        let a = self.adsr;
-        a.is_active()
+        self.adsr.is_active()
     }
 
     // The state, to be looked at.
     pub fn state(self) -> Adsr
-        ensures { result ≡ self.adsr }
+        ensures { Made Valid self result }
     {
         self.adsr
     }
@@ -364,9 +358,7 @@ impl Envelope {
 
 // The tick on an envelope that is lent for change.
 pub fn tick_in_place(e: &mut Envelope)
-    requires { ValidEnvelope e.old }
-    ensures { Made ValidEnvelope (ticked_envelope e.old) e.new }
+    ensures { e.new ≡ ticked e.old }
 {
-    let t = *e;
-    *e = t.tick();
+    *e = e.tick();
 }

@@ -3,8 +3,9 @@ use Prim.Native.Nat.{ℕ, zero, suc, ◌≤◌}
 use mathlib.Core.Path.{◌≡◌, refl}
 use native.Mathlib.Nat.{lt_irrefl}
 use native.Mathlib.Omega.{arith}
+use Rattle.std.specs.Prelude.{Result}
 use Rattle.error.specs.Numbers.{number_of}
-use Rattle.error.specs.Told.{Told, value, refused, and_then, value_in, refusal, ValidTold, Answered}
+use Rattle.error.specs.Told.{Told, value, refused, told, and_then, value_in, refusal, ValidTold, Answered}
 use Rattle.error.specs.declared.AudioError.{AudioError}
 use Rattle.error.specs.declared.AudioError.TheVariants as E
 
@@ -54,7 +55,7 @@ number-refusal (suc (suc (suc (suc (suc (suc (suc (suc (suc (suc (suc (suc (suc 
 number-refusal (suc (suc (suc (suc (suc (suc (suc (suc (suc (suc (suc (suc (suc (suc (suc (suc (suc (suc (suc (suc n)))))))))))))))))))) h k = absurd (lt_irrefl 0 (omega arith))
 
 -- an answer that tells a valid t
-pub answered : {A R : Type 0} {told : R → Told A} {Valid : A → Type 0} {t : Told A} {r : R} → told r ≡ t → ValidTold Valid t → Answered told Valid t r
+pub answered : {A : Type 0} {Valid : A → Type 0} {t : Told A} {r : Result A AudioError} → told r ≡ t → ValidTold Valid t → Answered Valid t r
 answered e h = record { same = e; valid = rw e h }
 
 -- what is told is one thing

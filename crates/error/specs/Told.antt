@@ -1,7 +1,8 @@
 -- Document 01: "When an answer is an enum, the promises use a definition that gives this paper's number and values for each case of the
 -- enum." The one form of such a definition. Assumes nothing.
-use Rattle.std.specs.Prelude.{ℕ, ◌≡◌, cond, eqb}
+use Rattle.std.specs.Prelude.{ℕ, ◌≡◌, cond, eqb, Result, Ok, Err}
 use Rattle.std.proofs.Math.Option.{Option, none, some}
+use Rattle.error.specs.Numbers.{number_of}
 use Rattle.error.specs.declared.AudioError.{AudioError}
 use Rattle.error.specs.declared.AudioError.TheVariants as E
 
@@ -9,6 +10,11 @@ use Rattle.error.specs.declared.AudioError.TheVariants as E
 pub data Told (A : Type 0) : Type 0 where
   value : A → Told A
   refused : ℕ → Told A
+
+-- what an answer tells
+abbrev pub told : {A : Type 0} → Result A AudioError → Told A
+told (Ok x) = value x
+told (Err e) = refused (number_of e)
 
 -- "A call passes its places in the table's order": a refusal stands, a value goes on to the next place
 abbrev pub and_then : {A B : Type 0} → Told A → (A → Told B) → Told B
@@ -57,7 +63,7 @@ abbrev pub ValidTold : {A : Type 0} → (A → Type 0) → Told A → Type 0
 ValidTold Valid (value x) = Valid x
 ValidTold Valid (refused n) = Unit {0}
 
--- What a call promises of an answer: what is told by it, and that its value keeps what such values keep.
-pub record Answered {A R : Type 0} (told : R → Told A) (Valid : A → Type 0) (t : Told A) (r : R) : Type 0 where
+-- What a call promises of an answer: what it tells, and that its value keeps what such values keep.
+pub record Answered {A : Type 0} (Valid : A → Type 0) (t : Told A) (r : Result A AudioError) : Type 0 where
   pub same : told r ≡ t
   pub valid : ValidTold Valid (told r)

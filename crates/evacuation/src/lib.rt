@@ -4,40 +4,55 @@
 ghost use Rattle.std.specs.Prelude.{◌≡◌, ◌<◌, get_or};
 ghost use Rattle.evacuation.specs.Pattern.{phases, is_on, byte_of};
 ghost use Rattle.evacuation.specs.Places.{next_phase};
-ghost use Rattle.evacuation.specs.Opened.{opened_at, pattern_at, reader_at, Valid, ValidReader, told_pattern, told_reader};
+ghost use Rattle.evacuation.specs.Opened.{opened_at, ValidRate};
 ghost use Rattle.error.specs.Told.{Answered};
 
 use error::AudioError;
+use std::marker::Model;
 
 mod recording;
 mod signal;
 
 // The pattern at a rate. The field is private, so that each one comes from `open`.
-#[derive(Clone, Copy)]
+#[derive(Clone, Copy, Debug, PartialEq, Eq)]
 pub struct Pattern {
     sample_rate_hz: u32,
 }
 
-#[derive(Clone, Copy)]
-pub enum PatternOpened {
-    Pattern(Pattern),
-    Refused(AudioError),
+impl Model for Pattern {
+    ghost use Rattle.std.specs.Prelude.{ℕ};
+    ghost use Rattle.evacuation.specs.Opened.{ValidRate};
+
+    ghost Value = { ℕ };
+
+    ghost view = { λ p. p.sample_rate_hz };
+
+    ghost invariant = { λ p. ValidRate p.sample_rate_hz };
+
+    ghost inverse = { λ rate. record { sample_rate_hz = rate } };
 }
 
 // A reader of recordings at a rate; private as the pattern's.
-#[derive(Clone, Copy)]
+#[derive(Clone, Copy, Debug, PartialEq, Eq)]
 pub struct Reader {
     sample_rate_hz: u32,
 }
 
-#[derive(Clone, Copy)]
-pub enum ReaderOpened {
-    Reader(Reader),
-    Refused(AudioError),
+impl Model for Reader {
+    ghost use Rattle.std.specs.Prelude.{ℕ};
+    ghost use Rattle.evacuation.specs.Opened.{ValidRate};
+
+    ghost Value = { ℕ };
+
+    ghost view = { λ p. p.sample_rate_hz };
+
+    ghost invariant = { λ p. ValidRate p.sample_rate_hz };
+
+    ghost inverse = { λ rate. record { sample_rate_hz = rate } };
 }
 
 // Where in a cycle a sample stands: the phase, and how many of its samples are left, this one among them.
-#[derive(Clone, Copy)]
+#[derive(Clone, Copy, Debug, PartialEq, Eq)]
 pub(crate) struct Place {
     phase: usize,
     left: u32,
@@ -58,12 +73,7 @@ fn is_on(phase: usize) -> bool
     requires { phase < 6 }
     ensures { result ≡ is_on phase }
 {
-    match phase {
-        0 => true,
-        2 => true,
-        4 => true,
-        _ => false,
-    }
+    matches!(phase, 0 | 2 | 4)
 }
 
 // What a sample of a phase is written as.
@@ -71,7 +81,7 @@ fn phase_byte(phase: usize) -> u8
     requires { phase < 6 }
     ensures { result ≡ byte_of (is_on phase) }
 {
-    if is_on(phase) { 1 } else { 0 }
+    u8::from(is_on(phase))
 }
 
 // The phase after a phase; after the last, the first.
@@ -82,30 +92,34 @@ fn next_phase(phase: usize) -> usize
     if phase == 5 { 0 } else { phase + 1 }
 }
 
+// A rate at which pattern and reader open.
+#[tactic(auto, using(std::proofs::lemmas::Bool::Decides::nat_tests), unfolding(crate::specs::Opened::opened_at))]
+fn valid_rate(sample_rate_hz: u32) -> Result<u32, AudioError>
+    ensures { Answered ValidRate (opened_at sample_rate_hz) result }
+{
+    if sample_rate_hz < 20 {
+        return Err(AudioError::LowRate);
+    }
+    if sample_rate_hz > 65537 {
+        return Err(AudioError::BadRate);
+    }
+    Ok(sample_rate_hz)
+}
+
 impl Pattern {
-    pub fn open(sample_rate_hz: u32) -> PatternOpened
-        ensures { Answered told_pattern Valid (opened_at sample_rate_hz (pattern_at sample_rate_hz)) result }
+    pub fn open(sample_rate_hz: u32) -> Result<Pattern, AudioError>
+        ensures { Answered ValidRate (opened_at sample_rate_hz) result }
     {
-        if sample_rate_hz < 20 {
-            return PatternOpened::Refused(AudioError::LowRate);
-        }
-        if sample_rate_hz > 65537 {
-            return PatternOpened::Refused(AudioError::BadRate);
-        }
-        PatternOpened::Pattern(Pattern { sample_rate_hz })
+        let sample_rate_hz = valid_rate(sample_rate_hz)?;
+        Ok(Pattern { sample_rate_hz })
     }
 }
 
 impl Reader {
-    pub fn open(sample_rate_hz: u32) -> ReaderOpened
-        ensures { Answered told_reader ValidReader (opened_at sample_rate_hz (reader_at sample_rate_hz)) result }
+    pub fn open(sample_rate_hz: u32) -> Result<Reader, AudioError>
+        ensures { Answered ValidRate (opened_at sample_rate_hz) result }
     {
-        if sample_rate_hz < 20 {
-            return ReaderOpened::Refused(AudioError::LowRate);
-        }
-        if sample_rate_hz > 65537 {
-            return ReaderOpened::Refused(AudioError::BadRate);
-        }
-        ReaderOpened::Reader(Reader { sample_rate_hz })
+        let sample_rate_hz = valid_rate(sample_rate_hz)?;
+        Ok(Reader { sample_rate_hz })
     }
 }

@@ -2,7 +2,7 @@
 // sample to sample after that, so that a run may go on past the last 64-bit count.
 ghost use Rattle.std.specs.Prelude.{◌≡◌, ◌<◌, get_or, length};
 ghost use Rattle.evacuation.specs.Pattern.{lengths, cycle_of, sounds, samples_from};
-ghost use Rattle.evacuation.specs.Opened.{Valid};
+ghost use Rattle.evacuation.specs.Opened.{ValidRate};
 ghost use Rattle.evacuation.specs.Places.{Stands, next_place};
 
 use super::{Pattern, Place, is_on, next_phase, phase_byte, phase_ms};
@@ -10,16 +10,17 @@ use super::{Pattern, Place, is_on, next_phase, phase_byte, phase_ms};
 impl Pattern {
     // The samples of a phase: 1,500 × 65,537 fits 32 bits.
     fn phase_samples(self, phase: usize) -> u32
-        requires { Valid self × (phase < 6) }
-        ensures { result ≡ get_or (lengths self.sample_rate_hz) phase 0 }
+        requires { phase < 6 }
+        ensures samples { result ≡ get_or (lengths self) phase 0 }
+        ensures rate { ValidRate self }
     {
-        (phase_ms(phase) as u32) * self.sample_rate_hz / 1000
+        u32::from(phase_ms(phase)) * self.sample_rate_hz / 1000
     }
 
     // How many samples a cycle has.
     pub fn cycle_samples(self) -> u32
-        requires { Valid self }
-        ensures { result ≡ cycle_of self.sample_rate_hz }
+        ensures samples { result ≡ cycle_of self }
+        ensures some { 0 < result }
     {
         let mut samples: u32 = 0;
         for k in 0..6 {
@@ -30,24 +31,22 @@ impl Pattern {
 
     // All six, so that a run of samples has no division.
     fn lengths(self) -> [u32; 6]
-        requires { Valid self }
-        ensures { result ≡ lengths self.sample_rate_hz }
+        ensures samples { result ≡ lengths self }
+        ensures rate { ValidRate self }
     {
         let mut out = [0u32; 6];
-        for k in 0..6 {
-            out[k] = self.phase_samples(k);
+        for (k, n) in out.iter_mut().enumerate() {
+            *n = self.phase_samples(k);
         }
         out
     }
 
     // Where a sample stands.
     fn place(self, sample: u64) -> Place
-        requires { Valid self }
-        ensures { Stands self.sample_rate_hz sample result }
+        ensures { Stands self sample result }
     {
-        let mut at = (sample % (self.cycle_samples() as u64)) as u32;
-        let mut k: usize = 0;
-        while k < 5 {
+        let mut at = (sample % u64::from(self.cycle_samples())) as u32;
+        for k in 0..5 {
             let n = self.phase_samples(k);
             if at < n {
                 return Place {
@@ -56,7 +55,6 @@ impl Pattern {
                 };
             }
             at -= n;
-            k += 1;
         }
         Place {
             phase: 5,
@@ -66,22 +64,19 @@ impl Pattern {
 
     // Whether the signal sounds at a sample, counted from its start.
     pub fn sounds(self, sample: u64) -> bool
-        requires { Valid self }
-        ensures { result ≡ sounds self.sample_rate_hz sample }
+        ensures { result ≡ sounds self sample }
     {
-        let place = self.place(sample);
-        is_on(place.phase)
+        is_on(self.place(sample).phase)
     }
 
     // A run of samples from `first` on, 1 on and 0 off, as many as there are cells.
     pub fn fill(self, first: u64, out: &mut [u8])
-        requires { Valid self }
-        ensures { out.new ≡ samples_from self.sample_rate_hz first (length out.old) }
+        ensures { out.new ≡ samples_from self first (length out.old) }
     {
         let lengths = self.lengths();
         let mut place = self.place(first);
-        for i in 0..out.len() {
-            out[i] = phase_byte(place.phase);
+        for cell in out {
+            *cell = phase_byte(place.phase);
             place = place.next(&lengths);
         }
     }
@@ -89,14 +84,15 @@ impl Pattern {
 
 impl Place {
     // Where the next sample stands.
+    #[tactic(auto, unfolding(crate::specs::Places::next_place))]
     fn next(self, lengths: &[u32; 6]) -> Place
         requires { (self.phase < 6) × (0 < self.left) }
         ensures { result ≡ next_place lengths.now self }
     {
         if self.left > 1 {
             return Place {
-                phase: self.phase,
                 left: self.left - 1,
+                ..self
             };
         }
         let phase = next_phase(self.phase);

@@ -1,4 +1,5 @@
 -- What callers cite of a payload: where the number is 0, the part that is named is within the bytes. Assumes nothing.
+use Rattle.std.specs.Prelude.{Some}
 use Prim.Native.Nat.{ℕ, ◌+◌, ◌≤◌}
 use mathlib.Core.Path.{◌≡◌, refl}
 use mathlib.Core.Bool.{Bool, true, false, cond}
@@ -9,7 +10,6 @@ use lib.ListN.{length}
 use Rattle.bank.proofs.Laws.{whole-within}
 use Rattle.bank.specs.Banks.{bank_of, lent_bank, Fails, nowhere, at_offset, at_length, fails_in, payload_number, payload_under}
 use Rattle.bank.specs.Entries.{place_of}
-use Rattle.bank.specs.declared.BankSet.TheVariants as B
 use Rattle.bank.specs.declared.EffectEntry.{EffectEntry}
 use Rattle.bank.specs.declared.SoundBank.{SoundBank}
 use Rattle.error.specs.Told.{Told, value, refused, and_then, passed, number_in}
@@ -33,7 +33,7 @@ unfolding bank_of
 bank-numbered rate count len =
     numbered_of (ltb 65537 rate) (refused 2) _ (omega arith) (numbered_of (ltb len (place_of count)) (refused 4) _ (omega arith) tt)
 
-payload-numbered : (b : SoundBank) (bytes : List ℕ) (offset len : ℕ) → Numbered (payload_under true (B.Bank b) bytes offset len)
+payload-numbered : (b : SoundBank) (bytes : List ℕ) (offset len : ℕ) → Numbered (payload_under true (Some b) bytes offset len)
 unfolding payload_under lent_bank
 payload-numbered b bytes offset len =
     numbered-then (cond (eqb (length bytes) b.len) (value b) (refused 7)) _
@@ -54,9 +54,9 @@ module _ (bytes : List ℕ) (rate count : ℕ) where
   unfolding looked_up
   inside offset len h = by-bank (bank_of rate count (length bytes)) h
     where
-      by-bank : (t : Told SoundBank) → and_then t (λ b. payload_under true (B.Bank b) bytes offset len) ≡ passed → offset + len ≤ length bytes
+      by-bank : (t : Told SoundBank) → and_then t (λ b. payload_under true (Some b) bytes offset len) ≡ passed → offset + len ≤ length bytes
       by-bank (refused n) h = let z : ◌≡◌ {A = ℕ} 0 1 = cc in omega arith
-      by-bank (value b) h = whole-within true (B.Bank b) bytes offset len h
+      by-bank (value b) h = whole-within true (Some b) bytes offset len h
 
   looked-numbered : (offset len : ℕ) → Numbered (looked_up bytes rate count offset len)
   unfolding looked_up

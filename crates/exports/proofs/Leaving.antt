@@ -9,9 +9,8 @@ use lib.ListN.{set}
 use lib.Seq.{sets, drop-length}
 use Rattle.buffers.specs.Buffers.{to_i16}
 use Rattle.buffers.specs.declared.Shape.TheVariants.{Once}
-use Rattle.error.specs.Told.{number_in}
+use Rattle.error.specs.Told.{told, number_in}
 use Rattle.laws.specs.Made.{Made}
-use Rattle.mixer.specs.Mixers.{told_outcome}
 use Rattle.requests.specs.Slices.{big16_at, request_at}
 use Rattle.sounder.specs.Calls.{left_in}
 use Rattle.sounder.specs.Frames.{Fills}
@@ -42,7 +41,7 @@ module _ (start : Sounder) (left cells₀ : List ℕ) (count : ℕ) where
     next h = let e : count - i ≡ suc (count - (i + 1)) = omega arith in rw (e, add-one i)
 
     pub leaving-turn : (label : ℕ) (r : Request) (c : SounderChanged) (n : ℕ) → i < count → label ≡ big16_at left (12 * i) → r ≡ request_at left (12 * i + 2)
-        → Made ValidSounderChanged (left_in s.state label r) c → n ≡ number_in (told_outcome c.outcome)
+        → Made ValidSounderChanged (left_in s.state label r) c → n ≡ number_in (told c.outcome)
         → Leaving start left cells₀ count (i + 1) c.sounder (set cells i n)
     unfolding left_all numbers_of
     leaving-turn label r c n h k q m e =

@@ -6,7 +6,7 @@ use Rattle.output.specs.Duty.{duty, period_read}
 
 -- "PWM period below 2 | 3"
 abbrev pub duty_told : ℤ → ℕ → Told ℕ
-duty_told s period = and_then (period_read period) (λ p. value (duty s p.counts))
+duty_told s period = and_then (period_read period) (λ p. value (duty s p))
 
 -- "Pan gains, left and right"
 abbrev pub sides_of : PanGains → List ℕ

@@ -1,8 +1,9 @@
 -- An envelope alone: the level after each tick, the release standing between. Assumes nothing.
 use Rattle.std.specs.Prelude.{ℕ, List, [], ◌∷◌}
-use Rattle.envelope.specs.Alone.{opened, triggered_envelope, released_envelope, ticked_envelope}
+use Rattle.envelope.specs.Adsrs.{triggered, released, ticked}
+use Rattle.envelope.specs.Alone.{opened}
 use Rattle.envelope.specs.declared.AdsrSpec.{AdsrSpec}
-use Rattle.envelope.specs.declared.Envelope.{Envelope}
+use Rattle.envelope.specs.declared.Adsr.{Adsr}
 use Rattle.laws.specs.Runs.{after, given}
 use Rattle.error.specs.Told.{Told, value, and_then}
 
@@ -11,12 +12,12 @@ spec_of attack decay sustain release =
     record { attack_ms = attack; decay_ms = decay; sustain_q8 = sustain; release_ms = release }
 
 -- the level that the next tick leaves
-abbrev pub next_level : Envelope → List ℕ
-next_level e = (ticked_envelope e).adsr.level_q8 ∷ []
+abbrev pub next_level : Adsr → List ℕ
+next_level e = (ticked e).level_q8 ∷ []
 
 -- so many levels
-abbrev pub levels_from : ℕ → Envelope → List ℕ
-levels_from n e = given ticked_envelope next_level n e
+abbrev pub levels_from : ℕ → Adsr → List ℕ
+levels_from n e = given ticked next_level n e
 
 -- a triggered envelope's levels in each cell of the first buffer, and after its release in each of the second. "An envelope opened alone
 -- gets number 2 as an engine does."
@@ -24,5 +25,5 @@ abbrev pub levels_told : ℕ → ℕ → AdsrSpec → ℕ → Told (List ℕ × 
 levels_told held left spec rate =
     and_then (opened spec rate)
     (λ e.
-    let t = triggered_envelope e in
-    value (levels_from held t, levels_from left (released_envelope (after ticked_envelope held t))))
+    let t = triggered e in
+    value (levels_from held t, levels_from left (released (after ticked held t))))

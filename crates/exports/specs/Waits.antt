@@ -1,12 +1,11 @@
 -- Requests that are left to a box of one call before its frames, and what is told of them: document 02, T-08. Assumes nothing.
-use Rattle.std.specs.Prelude.{ℕ, zero, suc, ◌+◌, ◌*◌, ◌/◌, ◌≡◌, List, [], ◌∷◌, ℤ, length}
+use Rattle.std.specs.Prelude.{ℕ, zero, suc, ◌+◌, ◌*◌, ◌/◌, ◌≡◌, List, [], ◌∷◌, ℤ, length, None, Option, Some}
 use Rattle.std.proofs.lemmas.List.Edits.{sets}
 use Rattle.buffers.specs.Buffers.{to_i16}
 use Rattle.error.specs.Numbers.{number_of}
-use Rattle.error.specs.Told.{Told, value, and_then, number_in}
+use Rattle.error.specs.Told.{told, Told, value, and_then, number_in}
 use Rattle.laws.specs.Made.{Made}
 use Rattle.laws.specs.Runs.{after, given}
-use Rattle.mixer.specs.Mixers.{told_outcome}
 use Rattle.requests.specs.Slices.{big16_at, request_at, requests_of}
 use Rattle.sounder.specs.Calls.{left_in}
 use Rattle.sounder.specs.Frames.{frames}
@@ -15,9 +14,8 @@ use Rattle.sounder.specs.Sounders.{ValidSounder}
 use Rattle.sounder.specs.declared.Sounder.{Sounder}
 use Rattle.sounder.specs.declared.SounderChanged.{SounderChanged}
 use Rattle.waiting.specs.Lines.{in_line, label_cells}
-use Rattle.waiting.specs.declared.Kept.{Kept}
-use Rattle.waiting.specs.declared.Kept.TheVariants as K
 use Rattle.waiting.specs.declared.Waiting.{Waiting}
+use Rattle.error.specs.declared.AudioError.{AudioError}
 
 -- ---- a list of them in a slice of bytes
 
@@ -46,7 +44,7 @@ left_all s (w ∷ ws) = left_all (leaving s w).sounder ws
 -- the number of each: 0, or why it was turned down
 unfoldable pub numbers_of : Sounder → List Waiting → List ℕ
 numbers_of s [] = []
-numbers_of s (w ∷ ws) = number_in (told_outcome (leaving s w).outcome) ∷ numbers_of (leaving s w).sounder ws
+numbers_of s (w ∷ ws) = number_in (told (leaving s w).outcome) ∷ numbers_of (leaving s w).sounder ws
 
 -- what leaving them promises; numbers go into cells from the front on, as far as there are cells
 pub record LeavesEach (s : Sounder) (left cells : List ℕ) (after : Sounder) (told : List ℕ) : Type 0 where
@@ -56,9 +54,9 @@ pub record LeavesEach (s : Sounder) (left cells : List ℕ) (after : Sounder) (t
 -- ---- what is told
 
 -- the number and the label of the latest that was dropped, 0 and 0 where none was
-abbrev pub dropped_cells : Kept → List ℕ
-dropped_cells K.Nothing = 0 ∷ 0 ∷ []
-dropped_cells (K.Refusal e label) = number_of e ∷ label ∷ []
+abbrev pub dropped_cells : Option (AudioError × ℕ) → List ℕ
+dropped_cells None = 0 ∷ 0 ∷ []
+dropped_cells (Some (e, label)) = number_of e ∷ label ∷ []
 
 -- the cells that are lent: for the numbers, for mono frames, and for what waits or was dropped after these
 pub record Lent : Type 0 where

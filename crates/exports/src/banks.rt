@@ -1,37 +1,40 @@
 // A bank that is set for one call alone: its search and its payloads.
 ghost use Rattle.std.specs.Prelude.{◌≡◌};
-ghost use Rattle.error.specs.Told.{number_in};
-ghost use Rattle.bank.specs.Banks.{told_payload};
-ghost use Rattle.bank.specs.Entries.{told_entry};
+ghost use Rattle.error.specs.Told.{told, number_in};
 ghost use Rattle.exports_parts.specs.Told.{Answers};
-ghost use Rattle.exports.specs.Banks.{searched, entry_cells, entry_told, looked_up, part_told, found_part};
+ghost use Rattle.exports.specs.Banks.{searched, entry_cells, entry_told, looked_up, found_part};
 
-use bank::{BankRead, BankSet, EffectEntry, EntryRead, PayloadRead, SoundBank};
+use bank::{EffectEntry, SoundBank};
+use error::AudioError;
+use exports_parts::{give, number_of};
 
 // The entry's fields, in their order.
 fn put_entry(e: EffectEntry, out: &mut [u32; 8])
     ensures { out.new ≡ entry_cells e }
 {
-    let kind = e.kind;
     *out = [
-        e.id as u32,
-        kind.as_u8() as u32,
-        e.flags as u32,
-        e.default_gain_q8 as u32,
-        e.param0 as u32,
-        e.param1 as u32,
+        u32::from(e.id),
+        u32::from(u8::from(e.kind)),
+        u32::from(e.flags),
+        u32::from(e.default_gain_q8),
+        u32::from(e.param0),
+        u32::from(e.param1),
         e.offset,
         e.len,
     ];
 }
 
-fn search(bytes: &[u8], sample_rate_hz: u32, effect_count: u16, id: u16) -> EntryRead
-    ensures { told_entry result ≡ searched bytes.now sample_rate_hz effect_count id }
+#[tactic(auto, unfolding(crate::specs::Banks::searched))]
+fn search(
+    bytes: &[u8],
+    sample_rate_hz: u32,
+    effect_count: u16,
+    id: u16,
+) -> Result<EffectEntry, AudioError>
+    ensures { told result ≡ searched bytes.now sample_rate_hz effect_count id }
 {
-    match SoundBank::new(sample_rate_hz, effect_count, bytes.len()) {
-        BankRead::Refused(e) => EntryRead::Refused(e),
-        BankRead::Bank(b) => bank::find_by_id(BankSet::Bank(b), bytes, id),
-    }
+    let b = SoundBank::new(sample_rate_hz, effect_count, bytes.len())?;
+    bank::find_by_id(Some(b), bytes, id)
 }
 
 // Searches a bank for an id: 0 and the entry's fields, or the number of the refusal and the cells as they were.
@@ -46,27 +49,26 @@ pub extern "C" fn birchjack_find(
     ensures { Answers (entry_told (searched bytes.now sample_rate_hz effect_count id)) out.old result out.new }
 {
     match search(bytes, sample_rate_hz, effect_count, id) {
-        EntryRead::Refused(e) => e.number(),
-        EntryRead::Entry(e) => {
+        Err(e) => u8::from(e),
+        Ok(e) => {
             put_entry(e, out);
             0
         }
     }
 }
 
+#[tactic(auto, unfolding(crate::specs::Banks::looked_up))]
 fn look_up(
     bytes: &[u8],
     sample_rate_hz: u32,
     effect_count: u16,
     offset: u32,
     len: u32,
-) -> PayloadRead
-    ensures { told_payload result ≡ looked_up bytes.now sample_rate_hz effect_count offset len }
+) -> Result<(), AudioError>
+    ensures { told result ≡ looked_up bytes.now sample_rate_hz effect_count offset len }
 {
-    match SoundBank::new(sample_rate_hz, effect_count, bytes.len()) {
-        BankRead::Refused(e) => PayloadRead::Refused(e),
-        BankRead::Bank(b) => bank::payload_number(BankSet::Bank(b), bytes, offset, len, true),
-    }
+    let b = SoundBank::new(sample_rate_hz, effect_count, bytes.len())?;
+    bank::payload_number(Some(b), bytes, offset, len, true)
 }
 
 // Whether a payload is there: 0, and then it is the part of the bytes at the offset, of the length; or the number of the refusal.
@@ -80,22 +82,20 @@ pub extern "C" fn birchjack_payload(
 ) -> u8
     ensures { result ≡ number_in (looked_up bytes.now sample_rate_hz effect_count offset len) }
 {
-    match look_up(bytes, sample_rate_hz, effect_count, offset, len) {
-        PayloadRead::Refused(e) => e.number(),
-        PayloadRead::Whole => 0,
-    }
+    number_of(look_up(bytes, sample_rate_hz, effect_count, offset, len))
 }
 
-fn put_part(offset: u32, len: u32, read: PayloadRead, out: &mut [u32; 2]) -> u8
-    ensures { Answers (part_told offset len (told_payload read)) out.old result out.new }
+fn found_part(
+    bytes: &[u8],
+    sample_rate_hz: u32,
+    effect_count: u16,
+    id: u16,
+) -> Result<[u32; 2], AudioError>
+    ensures { told result ≡ found_part bytes.now sample_rate_hz effect_count (searched bytes.now sample_rate_hz effect_count id) }
 {
-    match read {
-        PayloadRead::Refused(e) => e.number(),
-        PayloadRead::Whole => {
-            *out = [offset, len];
-            0
-        }
-    }
+    let e = search(bytes, sample_rate_hz, effect_count, id)?;
+    look_up(bytes, sample_rate_hz, effect_count, e.offset, e.len)?;
+    Ok([e.offset, e.len])
 }
 
 // The payload of the entry with an id: 0 and its offset and length in the bytes, or the number of the search's or the lookup's refusal.
@@ -109,11 +109,5 @@ pub extern "C" fn birchjack_payload_of(
 ) -> u8
     ensures { Answers (found_part bytes.now sample_rate_hz effect_count (searched bytes.now sample_rate_hz effect_count id)) out.old result out.new }
 {
-    match search(bytes, sample_rate_hz, effect_count, id) {
-        EntryRead::Refused(e) => e.number(),
-        EntryRead::Entry(e) => {
-            let read = look_up(bytes, sample_rate_hz, effect_count, e.offset, e.len);
-            put_part(e.offset, e.len, read, out)
-        }
-    }
+    give(found_part(bytes, sample_rate_hz, effect_count, id), out)
 }

@@ -3,9 +3,8 @@ ghost use Rattle.counts.specs.Counts.{counted};
 ghost use Rattle.exports_parts.specs.Told.{Answers};
 ghost use Rattle.exports.specs.Counting.{counts_told};
 
-use counts::CountsRead;
-
-// The lists after which it is refused, then those after which it is accepted; 22 for a site past what is counted.
+// The lists after which it is refused, then those after which it is accepted; 22 for a site past what is counted. A `match`, not `map`: tried, what a
+// closure says of an array is not found by the check.
 #[unsafe(no_mangle)]
 pub extern "C" fn birchjack_turned_away(
     voices: u8,
@@ -17,8 +16,8 @@ pub extern "C" fn birchjack_turned_away(
     ensures { Answers (counts_told (counted voices priorities requests priority)) out.old result out.new }
 {
     match counts::turned_away(voices, priorities, requests, priority) {
-        CountsRead::Refused(e) => e.number(),
-        CountsRead::Counts(c) => {
+        Err(e) => u8::from(e),
+        Ok(c) => {
             *out = [c.refused, c.accepted];
             0
         }

@@ -6,7 +6,8 @@ ghost use Rattle.output.specs.Levels.{limited_bus};
 ghost use Rattle.exports_parts.specs.Told.{Answers};
 ghost use Rattle.exports.specs.Leaves.{duty_told, sides_of};
 
-use output::{Limited, Period, PeriodRead};
+use exports_parts::give;
+use output::Period;
 
 // A sample by a gain in 256ths, 255 the whole of it.
 #[unsafe(no_mangle)]
@@ -54,14 +55,7 @@ pub extern "C" fn birchjack_sine(index: u8) -> i8
 pub extern "C" fn birchjack_limit(sum: i32, out: &mut i8) -> u8
     ensures { Answers (limited_bus sum) out.old result out.new }
 {
-    let limited = output::limit_bus(sum);
-    match limited {
-        Limited::Sample(s) => {
-            *out = s;
-            0
-        }
-        Limited::Refused(e) => e.number(),
-    }
+    give(output::limit_bus(sum), out)
 }
 
 // A sample's compare value in a period; 3 for a period below 2.
@@ -70,13 +64,7 @@ pub extern "C" fn birchjack_duty_of(sample: i8, period: u16, out: &mut u16) -> u
     ensures { Answers (duty_told sample period) out.old result out.new }
 {
     let read = Period::new(period);
-    match read {
-        PeriodRead::Accepted(p) => {
-            *out = output::pcm_to_duty(sample, p);
-            0
-        }
-        PeriodRead::Refused(e) => e.number(),
-    }
+    give(read.map(|p| output::pcm_to_duty(sample, p)), out)
 }
 
 // What a fade gains with each frame.

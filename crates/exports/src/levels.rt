@@ -1,25 +1,21 @@
 // An envelope alone.
 ghost use Rattle.std.specs.Prelude.{◌≡◌, length};
-ghost use Rattle.laws.specs.Made.{Made};
 ghost use Rattle.laws.specs.Runs.{after};
-ghost use Rattle.envelope.specs.Alone.{ValidEnvelope, ticked_envelope};
+ghost use Rattle.envelope.specs.Adsrs.{ticked};
 ghost use Rattle.exports_parts.specs.Told.{Answers};
 ghost use Rattle.exports.specs.Levels.{spec_of, levels_from, levels_told};
 
-use envelope::{AdsrSpec, Envelope, Opened};
+use envelope::{AdsrSpec, Envelope};
 
 // The level after each tick, one to a cell.
 fn levels(first: Envelope, out: &mut [u8]) -> Envelope
-    requires { ValidEnvelope first }
-    ensures made { Made ValidEnvelope (after ticked_envelope (length out.old) first) result }
+    ensures last { result ≡ after ticked (length out.old) first }
     ensures out_after { out.new ≡ levels_from (length out.old) first }
 {
     let mut e = first;
-    let mut i = 0;
-    while i < out.len() {
+    for cell in out {
         e = e.tick();
-        out[i] = e.level();
-        i += 1;
+        *cell = e.level();
     }
     e
 }
@@ -44,13 +40,12 @@ pub extern "C" fn birchjack_envelope(
         sustain_q8,
         release_ms,
     };
-    let read = Envelope::open(spec, sample_rate_hz);
-    match read {
-        Opened::Envelope(e) => {
+    match Envelope::open(spec, sample_rate_hz) {
+        Ok(e) => {
             let last = levels(e.trigger(), held);
             levels(last.release(), left);
             0
         }
-        Opened::Refused(e) => e.number(),
+        Err(e) => u8::from(e),
     }
 }

@@ -1,18 +1,21 @@
 // Lengths in samples with what is left over, so that many in a row do not drift: 2 for a rate above 65,537.
 ghost use Rattle.std.specs.Prelude.{◌≡◌};
-ghost use Rattle.lengths.specs.Lengths.{at_rate, carrying, length_of, told_length, total_of, told_total};
+ghost use Rattle.error.specs.Told.{told};
+ghost use Rattle.lengths.specs.Lengths.{at_rate, carrying, length_of, total_of};
 ghost use Rattle.exports_parts.specs.Told.{Answers};
 ghost use Rattle.exports.specs.Lengths.{length_told, total_told};
 
-use lengths::{LengthRead, TotalRead};
+use error::AudioError;
+use lengths::Length;
 
-fn put_length(read: LengthRead, out: &mut [u32; 2]) -> u8
-    ensures { Answers (length_told (told_length read)) out.old result out.new }
+// A `match` here and below, not `map`: tried, what a closure says of an array is not found by the check.
+fn put_length(read: Result<Length, AudioError>, out: &mut [u32; 2]) -> u8
+    ensures { Answers (length_told (told read)) out.old result out.new }
 {
     match read {
-        LengthRead::Refused(e) => e.number(),
-        LengthRead::Length(n) => {
-            *out = [n.samples, n.remainder as u32];
+        Err(e) => u8::from(e),
+        Ok(n) => {
+            *out = [n.samples, u32::from(n.remainder)];
             0
         }
     }
@@ -49,9 +52,9 @@ pub extern "C" fn birchjack_total_length(
     ensures { Answers (total_told (at_rate sample_rate_hz (total_of lengths.now sample_rate_hz))) out.old result out.new }
 {
     match lengths::total_in_samples(lengths, sample_rate_hz) {
-        TotalRead::Refused(e) => e.number(),
-        TotalRead::Total(t) => {
-            *out = [t.samples, t.remainder as u64];
+        Err(e) => u8::from(e),
+        Ok(t) => {
+            *out = [t.samples, u64::from(t.remainder)];
             0
         }
     }

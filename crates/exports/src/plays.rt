@@ -1,4 +1,5 @@
 // A box of the present rules (document 02) that lives for one call: it is opened, gets a bank, plays requests, and is asked for frames.
+// What is handed over comes one by one from C (C interface), and each call's clause names its fill: a closure for the last step would not be plainer.
 ghost use Rattle.laws.specs.Made.{Made};
 ghost use Rattle.buffers.specs.Buffers.{to_i16};
 ghost use Rattle.buffers.specs.declared.Level.TheVariants.{Duty};
@@ -11,10 +12,11 @@ ghost use Rattle.exports_play.specs.Plays.{calls};
 
 use config::DEFAULT_PWM_PERIOD;
 use exports_play::ready;
-use mixer::Outcome;
 use output::DutyMode;
 use sounder::Sounder;
 
+// Above 3 none is started: C hands a number, and one `if` over it is as plain as an `Option` of a waveform.
+#[tactic(auto, using(std::proofs::lemmas::Bool::Decides::nat_tests), unfolding(exports_parts::specs::Plays::with_poly_blep))]
 fn with_polyblep(s: Sounder, waveform: u8, freq_hz: u32, duration_ms: u16) -> Sounder
     requires { ValidSounder s }
     ensures { Made ValidSounder (with_poly_blep calls s waveform freq_hz duration_ms) result }
@@ -50,10 +52,8 @@ fn panned(first: Sounder, pans: &[u8]) -> Sounder
     ensures { Made ValidSounder (panned_from calls 0 pans.now first) result }
 {
     let mut s = first;
-    let mut i = 0;
-    while i < pans.len() {
-        s = s.set_voice_pan(i, pans[i]);
-        i += 1;
+    for (i, &pan) in pans.iter().enumerate() {
+        s = s.set_voice_pan(i, pan);
     }
     s
 }
@@ -82,10 +82,9 @@ pub extern "C" fn birchjack_pcm_i16(
         master_gain_q8,
     );
     let c = ready(n, free_only, config, bytes, effect_count);
-    let outcome = c.outcome;
-    match outcome {
-        Outcome::Refused(e) => e.number(),
-        Outcome::Done => {
+    match c.outcome {
+        Err(e) => u8::from(e),
+        Ok(()) => {
             let silent = c.sounder;
             let s = sounding(
                 silent,
@@ -126,10 +125,9 @@ pub extern "C" fn birchjack_stereo_i16(
         master_gain_q8,
     );
     let c = ready(n, free_only, config, bytes, effect_count);
-    let outcome = c.outcome;
-    match outcome {
-        Outcome::Refused(e) => e.number(),
-        Outcome::Done => {
+    match c.outcome {
+        Err(e) => u8::from(e),
+        Ok(()) => {
             let silent = c.sounder;
             let s = sounding(
                 silent,
@@ -169,10 +167,9 @@ pub extern "C" fn birchjack_duty(
     let mode = exports_parts::mode_of(shaped, second_order);
     let config = exports_parts::settings(sample_rate_hz, period, mode, master_gain_q8);
     let c = ready(n, free_only, config, bytes, effect_count);
-    let outcome = c.outcome;
-    match outcome {
-        Outcome::Refused(e) => e.number(),
-        Outcome::Done => {
+    match c.outcome {
+        Err(e) => u8::from(e),
+        Ok(()) => {
             let silent = c.sounder;
             let s = sounding(
                 silent,

@@ -1,7 +1,5 @@
 // Requests that wait (document 02, T-08): a box that lives for one call is left requests under labels before it gives its frames.
 ghost use Rattle.std.specs.Prelude.{◌≡◌, ◌+◌, ◌≤◌, length, set};
-ghost use Rattle.error.specs.Told.{number_in};
-ghost use Rattle.mixer.specs.Mixers.{told_outcome};
 ghost use Rattle.output.specs.declared.DutyMode.TheVariants as M;
 ghost use Rattle.requests.specs.Slices.{big16_at, request_at};
 ghost use Rattle.sounder.specs.Sounders.{ValidSounder};
@@ -12,20 +10,21 @@ ghost use Rattle.exports.specs.Waits.{LeavesEach, dropped_cells, lent, waits_tol
 
 use config::DEFAULT_PWM_PERIOD;
 use envelope::AdsrSpec;
+use error::AudioError;
+use exports_parts::number_of;
 use exports_play::ready;
-use mixer::Outcome;
 use output::DutyMode;
 use sounder::Sounder;
 use start::Request;
-use waiting::Kept;
 
 fn big16_at(l: &[u8], k: usize) -> u16
     requires { k + 2 ≤ length l.now }
     ensures { result ≡ big16_at l.now k }
 {
-    256 * (l[k] as u16) + (l[k + 1] as u16)
+    u16::from_be_bytes([l[k], l[k + 1]])
 }
 
+#[tactic(auto, unfolding(requests::specs::Slices::request_at))]
 fn request_at(l: &[u8], k: usize) -> Request
     requires { k + 10 ≤ length l.now }
     ensures { result ≡ request_at l.now k }
@@ -43,16 +42,7 @@ fn request_at(l: &[u8], k: usize) -> Request
     }
 }
 
-fn number_of(outcome: Outcome) -> u8
-    ensures { result ≡ number_in (told_outcome outcome) }
-{
-    match outcome {
-        Outcome::Done => 0,
-        Outcome::Refused(e) => e.number(),
-    }
-}
-
-// A cell that is not there is told nothing.
+// A cell that is not there is told nothing. (Tried `get_mut`: the proof did not close.)
 fn tell(numbers: &mut [u8], i: usize, number: u8)
     ensures { numbers.new ≡ set numbers.old i number }
 {
@@ -72,21 +62,19 @@ fn leave_each(first: Sounder, left: &[u8], numbers: &mut [u8]) -> Sounder
     for i in 0..count {
         let label = big16_at(left, 12 * i);
         let request = request_at(left, 12 * i + 2);
-        let adsr = request.adsr;
-        let c = s.leave(label, request.id, adsr, request.priority);
-        let outcome = c.outcome;
+        let c = s.leave(label, request.id, request.adsr, request.priority);
         s = c.sounder;
-        tell(numbers, i, number_of(outcome));
+        tell(numbers, i, number_of(c.outcome));
     }
     s
 }
 
-fn dropped_cells(kept: Kept) -> [u16; 2]
+fn dropped_cells(kept: Option<(AudioError, u16)>) -> [u16; 2]
     ensures { result ≡ dropped_cells kept }
 {
     match kept {
-        Kept::Nothing => [0, 0],
-        Kept::Refusal(e, label) => [e.number() as u16, label],
+        None => [0, 0],
+        Some((e, label)) => [u16::from(u8::from(e)), label],
     }
 }
 
@@ -117,10 +105,9 @@ pub extern "C" fn birchjack_waiting_pcm_i16(
         master_gain_q8,
     );
     let c = ready(n, free_only, config, bytes, effect_count);
-    let outcome = c.outcome;
-    match outcome {
-        Outcome::Refused(e) => e.number(),
-        Outcome::Done => {
+    match c.outcome {
+        Err(e) => u8::from(e),
+        Ok(()) => {
             let silent = c.sounder;
             let played = silent.play_all(bytes, requests);
             let s = leave_each(played, left, numbers);

@@ -3,7 +3,7 @@ ghost use Rattle.std.specs.Prelude.{◌≡◌, length};
 ghost use Rattle.exports_parts.specs.Told.{Answers};
 ghost use Rattle.exports.specs.Writing.{bank_from, bank_told};
 
-use bank_writer::BankWritten;
+use exports_parts::give;
 
 // The entries in their bytes, thirteen each, with their payloads end to end, as a bank at the front of `out`; and its length.
 #[unsafe(no_mangle)]
@@ -18,11 +18,6 @@ pub extern "C" fn birchjack_write_bank(
 {
     let given = bank_writer::entries_from(entries);
     let count = entries.len() / bank_writer::GIVEN_SIZE;
-    match bank_writer::write_bank(*header, given, count, payloads, out) {
-        BankWritten::Refused(e) => e.number(),
-        BankWritten::Length(n) => {
-            *len = n;
-            0
-        }
-    }
+    let written = bank_writer::write_bank(*header, given, count, payloads, out);
+    give(written, len)
 }

@@ -1,4 +1,6 @@
 // Document 01's box for one call: it is opened, gets a bank, plays requests, and is asked for frames.
+// Twins of `exports` and `exports_play`: one body for both boxes needs a trait of ten calls, each with a ghost member and a clause, and an impl for each box,
+// which is as long as the twins.
 ghost use Rattle.laws.specs.Made.{Made};
 ghost use Rattle.buffers.specs.Buffers.{to_i16};
 ghost use Rattle.buffers.specs.declared.Level.TheVariants.{Duty};
@@ -11,7 +13,6 @@ ghost use Rattle.exports_engine.specs.Plays.{told, calls};
 
 use config::{AudioConfig, DEFAULT_PWM_PERIOD};
 use engine::{AudioEngine, EngineChanged};
-use mixer::Outcome;
 use output::DutyMode;
 
 // An engine with its bank, or what turned it down.
@@ -26,16 +27,16 @@ fn ready(
 {
     let policy = exports_parts::policy_of(free_only);
     let opened = AudioEngine::open(n, config, policy);
-    let outcome = opened.outcome;
-    match outcome {
-        Outcome::Refused(_) => opened,
-        Outcome::Done => {
-            let silent = opened.engine;
-            silent.set_bank(bytes, config.sample_rate_hz, effect_count)
-        }
+    match opened.outcome {
+        Err(_) => opened,
+        Ok(()) => opened
+            .engine
+            .set_bank(bytes, config.sample_rate_hz, effect_count),
     }
 }
 
+// Above 3 none is started: C hands a number, and one `if` over it is as plain as an `Option` of a waveform.
+#[tactic(auto, using(std::proofs::lemmas::Bool::Decides::nat_tests), unfolding(exports_parts::specs::Plays::with_poly_blep))]
 fn with_polyblep(e: AudioEngine, waveform: u8, freq_hz: u32, duration_ms: u16) -> AudioEngine
     requires { ValidEngine e }
     ensures { Made ValidEngine (with_poly_blep calls e waveform freq_hz duration_ms) result }
@@ -71,10 +72,8 @@ fn panned(first: AudioEngine, pans: &[u8]) -> AudioEngine
     ensures { Made ValidEngine (panned_from calls 0 pans.now first) result }
 {
     let mut e = first;
-    let mut i = 0;
-    while i < pans.len() {
-        e = e.set_voice_pan(i, pans[i]);
-        i += 1;
+    for (i, &pan) in pans.iter().enumerate() {
+        e = e.set_voice_pan(i, pan);
     }
     e
 }
@@ -95,10 +94,9 @@ pub extern "C" fn birchjack_01_play(
 {
     let config = exports_parts::settings(sample_rate_hz, DEFAULT_PWM_PERIOD, DutyMode::Linear, 255);
     let c = ready(n, free_only, config, bytes, effect_count);
-    let outcome = c.outcome;
-    match outcome {
-        Outcome::Refused(e) => e.number(),
-        Outcome::Done => {
+    match c.outcome {
+        Err(e) => u8::from(e),
+        Ok(()) => {
             let silent = c.engine;
             let played = silent.play_each(bytes, requests, outcomes);
             *audible = played.active_voice_count();
@@ -131,10 +129,9 @@ pub extern "C" fn birchjack_01_pcm_i16(
         master_gain_q8,
     );
     let c = ready(n, free_only, config, bytes, effect_count);
-    let outcome = c.outcome;
-    match outcome {
-        Outcome::Refused(e) => e.number(),
-        Outcome::Done => {
+    match c.outcome {
+        Err(e) => u8::from(e),
+        Ok(()) => {
             let silent = c.engine;
             let e = sounding(
                 silent,
@@ -175,10 +172,9 @@ pub extern "C" fn birchjack_01_stereo_i16(
         master_gain_q8,
     );
     let c = ready(n, free_only, config, bytes, effect_count);
-    let outcome = c.outcome;
-    match outcome {
-        Outcome::Refused(e) => e.number(),
-        Outcome::Done => {
+    match c.outcome {
+        Err(e) => u8::from(e),
+        Ok(()) => {
             let silent = c.engine;
             let e = sounding(
                 silent,
@@ -218,10 +214,9 @@ pub extern "C" fn birchjack_01_duty(
     let mode = exports_parts::mode_of(shaped, second_order);
     let config = exports_parts::settings(sample_rate_hz, period, mode, master_gain_q8);
     let c = ready(n, free_only, config, bytes, effect_count);
-    let outcome = c.outcome;
-    match outcome {
-        Outcome::Refused(e) => e.number(),
-        Outcome::Done => {
+    match c.outcome {
+        Err(e) => u8::from(e),
+        Ok(()) => {
             let silent = c.engine;
             let e = sounding(
                 silent,

@@ -1,15 +1,14 @@
 -- A box that is opened, gets a bank, plays requests and gives frames, all in one call: of any kind that has these calls. Assumes nothing.
-use Rattle.std.specs.Prelude.{ℕ, suc, ◌≡◌, Bool, cond, List, [], ◌∷◌, ◌++◌, map, ltb, ℤ, length, drop}
+use Rattle.std.specs.Prelude.{ℕ, suc, ◌≡◌, Bool, cond, List, [], ◌∷◌, ◌++◌, map, ltb, ℤ, length, drop, Result}
 use Rattle.std.proofs.lemmas.List.Edits.{sets}
 use Rattle.buffers.specs.Shapes.{Frames, frames_in, cells_in, shape_step, shape_raw, level_next, level_cell}
 use Rattle.buffers.specs.declared.Level.{Level}
 use Rattle.buffers.specs.declared.Shape.{Shape}
 use Rattle.config.specs.Config.{configured, with_master_gain}
 use Rattle.config.specs.declared.AudioConfig.{AudioConfig}
-use Rattle.error.specs.Told.{Told, value, and_then}
+use Rattle.error.specs.Told.{told, Told, value, and_then}
 use Rattle.laws.specs.Runs.{given}
-use Rattle.mixer.specs.Mixers.{audible_count, told_outcome}
-use Rattle.mixer.specs.declared.Outcome.{Outcome}
+use Rattle.mixer.specs.Mixers.{audible_count}
 use Rattle.mixer.specs.declared.VoiceStealingPolicy.{VoiceStealingPolicy}
 use Rattle.mixer.specs.declared.VoiceStealingPolicy.TheVariants as P
 use Rattle.output.specs.declared.DutyMode.{DutyMode}
@@ -18,6 +17,7 @@ use Rattle.polyblep.specs.declared.PolyBlepWaveform.{PolyBlepWaveform}
 use Rattle.replay_fields.specs.Read.{poly_blep_waveform}
 use Rattle.requests.specs.Players.{Player, played_all}
 use Rattle.requests.specs.Slices.{requests_of, outcomes_of}
+use Rattle.error.specs.declared.AudioError.{AudioError}
 
 -- a choice of two policies, and of three duty modes, in flags, of which every combination means something
 abbrev pub policy_of : Bool → VoiceStealingPolicy
@@ -30,8 +30,8 @@ abbrev pub settings : ℕ → ℕ → DutyMode → ℕ → AudioConfig
 settings rate period mode gain = with_master_gain (configured rate period mode) gain
 
 -- the box that an opening or a bank gives, or the refusal's number
-abbrev pub told_box : {Box : Type 0} → Outcome → Box → Told Box
-told_box outcome box = and_then (told_outcome outcome) (λ _. value box)
+abbrev pub told_box : {Box : Type 0} → Result (Unit {0}) AudioError → Box → Told Box
+told_box outcome box = and_then (told outcome) (λ _. value box)
 
 -- The calls of a box that are made here, each as the box's contract has it: its requests, its state and the frames of that.
 pub record Calls (Box State : Type 0) : Type 0 where

@@ -9,7 +9,6 @@ ghost use Rattle.exports_parts.specs.Plays.{policy_of, settings, Readies, readie
 ghost use Rattle.exports_play.specs.Plays.{told, calls};
 
 use config::{AudioConfig, DEFAULT_PWM_PERIOD};
-use mixer::Outcome;
 use output::DutyMode;
 use sounder::{Sounder, SounderChanged};
 
@@ -25,13 +24,11 @@ pub fn ready(
 {
     let policy = exports_parts::policy_of(free_only);
     let opened = Sounder::open(n, config, policy);
-    let outcome = opened.outcome;
-    match outcome {
-        Outcome::Refused(_) => opened,
-        Outcome::Done => {
-            let silent = opened.sounder;
-            silent.set_bank(bytes, config.sample_rate_hz, effect_count)
-        }
+    match opened.outcome {
+        Err(_) => opened,
+        Ok(()) => opened
+            .sounder
+            .set_bank(bytes, config.sample_rate_hz, effect_count),
     }
 }
 
@@ -50,10 +47,9 @@ pub fn birchjack_play(
 {
     let config = exports_parts::settings(sample_rate_hz, DEFAULT_PWM_PERIOD, DutyMode::Linear, 255);
     let c = ready(n, free_only, config, bytes, effect_count);
-    let outcome = c.outcome;
-    match outcome {
-        Outcome::Refused(e) => e.number(),
-        Outcome::Done => {
+    match c.outcome {
+        Err(e) => u8::from(e),
+        Ok(()) => {
             let silent = c.sounder;
             let played = silent.play_each(bytes, requests, outcomes);
             *audible = played.active_voice_count();

@@ -1,9 +1,9 @@
 -- A run, as a loop goes through its lines. Assumes nothing.
 use Prim.Native.Nat.{ℕ, ◌+◌, ◌≤◌, ◌<◌}
-use mathlib.Core.Path.{◌≡◌, refl, sym, ap, ◌∙◌}
+use mathlib.Core.Path.{◌≡◌, refl, ◌∙◌}
 use mathlib.Core.Bool.{Bool, true, false, cond}
 use mathlib.Core.List.{List, [], ◌∷◌, ◌++◌}
-use native.Mathlib.Nat.{zero-add, add-zero, add_assoc}
+use native.Mathlib.Nat.{zero-add}
 use native.Mathlib.Omega.{arith}
 use lib.IntN.{ℤ}
 use lib.ListN.{length, take, drop, length-append, drop_of_length-le}
@@ -15,7 +15,6 @@ use Rattle.replay_session.specs.declared.SessionAnswered.{SessionAnswered}
 use Rattle.render_sounds.specs.Sounds.{Sounds}
 use Rattle.exports_replay.specs.Lines.{lines_of}
 use Rattle.exports_replay.specs.Runs.{answered, told, all_good, no_cells, told_by, is_good, capped, Poured}
-use Rattle.exports_replay.specs.declared.Ran.{Ran}
 use Rattle.exports_replay.proofs.Room.{sets-capped, capped-sum, poured}
 
 -- whether a run that is good so far stays so

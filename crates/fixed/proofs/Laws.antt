@@ -1,12 +1,11 @@
 -- Laws of the definitions, by which callers and proofs bound what they give. Assumes nothing.
-use Rattle.std.proofs.Common.{◌≡◌, ℕ, zero, suc, ◌+◌, ◌-◌, ◌*◌, ◌/◌, ◌^◌, ◌<◌, ◌≤◌, Bool, true, false, cond, eqb, ℤ, pos, negsuc, ◌+ℤ◌, ◌-ℤ◌, ◌*ℤ◌, neg_ℤ, nat_abs, sym, refl, ap, subst, le_trans, le_of_eq, mul_comm, div-lt_iff_lt-mul, mul-le-mul, le_antisymm, mul-le-mul_left, le-div_iff_mul-le, mul-div_cancel, arith, w8, w16, w32, Fits, SFits, ne_eqb, eqb-true}
-use native.Mathlib.Nat.{div-le_of_le-mul, zero-div}
-use lib.IntN.{sub_ℕ, +ℤ_comm, +ℤ_idr, -ℤ-+ℤ_cancel}
-use lib.Signed.{quot_z, shr_z, mag}
+use Rattle.std.proofs.Common.{◌≡◌, ℕ, zero, suc, ◌+◌, ◌*◌, ◌/◌, ◌<◌, ◌≤◌, Bool, true, false, cond, eqb, ℤ, pos, negsuc, ◌+ℤ◌, ◌-ℤ◌, ◌*ℤ◌, neg_ℤ, nat_abs, sym, refl, ap, le_trans, le_of_eq, mul_comm, div-lt_iff_lt-mul, mul-le-mul, mul-le-mul_left, le-div_iff_mul-le, mul-div_cancel, arith, w8, w16, w32, Fits, SFits, ne_eqb, eqb-true}
+use native.Mathlib.Nat.{div-le_of_le-mul}
+use lib.IntN.{+ℤ_comm, +ℤ_idr, -ℤ-+ℤ_cancel}
+use lib.Signed.{quot_z, shr_z}
 use mir.Syntax.{Width}
-use mir.Val.{hbits}
 use mir.Facts.{sfits_widen}
-use Rattle.laws.proofs.Signed.{abs≤, abs-fits, abs-quot, mul≤, add≤, sub≤, mag_shr, mag≤abs, neg-fits, sub-fits, sub-bounds, neg-quot}
+use Rattle.laws.proofs.Signed.{abs≤, abs-fits, abs-quot, mul≤, sub≤, mag_shr, neg-fits, sub-fits, sub-bounds, neg-quot}
 use Rattle.fixed.specs.Fixed.{toward, gained, factor_of, gained_by}
 
 -- k of n steps up from a, or down from a, stay within what a and the whole way fit

@@ -1,4 +1,4 @@
 -- Laws that callers of these functions cite, and what the proofs here share.
 pub mod Laws
 pub mod Answers
-mod Cut
+pub mod Literals

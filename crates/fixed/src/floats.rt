@@ -1,22 +1,22 @@
 // Floats by their bits and held to a range; decibels, in the source's order of operations.
 ghost use Rattle.std.specs.Prelude.{◌≡◌, from_bits};
 ghost use Rattle.std.specs.Float.{binary32};
-ghost use Rattle.std.specs.Float.Ieee.{to_unsigned};
 ghost use Rattle.laws.specs.F32.{held_to_f};
-ghost use Rattle.fixed.specs.Decibels.{cut_to_byte, gain_of_db, log2_of, db_of_gain};
+ghost use Rattle.fixed.specs.Decibels.{gain_of_db, db_of_gain};
 
 // The float that bits stand for. A NaN's pattern gives the one NaN that there is in a number's value.
 pub fn float_of(bits: u32) -> f32
     ensures { result ≡ from_bits binary32 bits }
 {
     if bits % 0x8000_0000 > 0x7f80_0000 {
-        0.0 / 0.0
+        f32::NAN
     } else {
         f32::from_bits(bits)
     }
 }
 
-// The source's `x.clamp(lo, hi)`.
+// The source's `x.clamp(lo, hi)`. std's asks that lo <= hi, which this asks of no caller.
+#[tactic(auto, unfolding(laws::specs::F32::held_to_f))]
 pub fn clamp_f32(x: f32, lo: f32, hi: f32) -> f32
     ensures { result ≡ held_to_f lo hi x }
 {
@@ -29,20 +29,7 @@ pub fn clamp_f32(x: f32, lo: f32, hi: f32) -> f32
     x
 }
 
-// The source's `x.clamp(0.0, 255.0) as u8`: what is not above 0, a NaN among it, is 0.
-fn cut_to_byte(x: f32) -> u8
-    ensures { result ≡ cut_to_byte x }
-{
-    if x >= 255.0 {
-        return 255;
-    }
-    if x > 0.0 {
-        std::num::truncating_f32_to_u64(x) as u8
-    } else {
-        0
-    }
-}
-
+#[tactic(auto, unfolding(crate::specs::Decibels::gain_of_db, crate::specs::Decibels::ten_to, crate::specs::Decibels::cut_to_byte, crate::proofs::Literals::of_bits, crate::proofs::Literals::round, crate::proofs::Literals::neg))]
 pub fn db_to_q8(db: f32) -> u8
     ensures { result ≡ gain_of_db db }
 {
@@ -54,7 +41,7 @@ pub fn db_to_q8(db: f32) -> u8
     }
     let x = db / 20.0;
     let lin = 1.0 + 2.3026 * x + 2.651 * x * x + 2.03 * x * x * x;
-    cut_to_byte(lin * 255.0)
+    std::num::saturating_f32_to_u8(clamp_f32(lin * 255.0, 0.0, 255.0))
 }
 
 pub fn q8_to_db(gain_q8: u8) -> f32
@@ -63,10 +50,10 @@ pub fn q8_to_db(gain_q8: u8) -> f32
     if gain_q8 == 0 {
         return -96.0;
     }
-    let lin = (gain_q8 as f32) / 255.0;
-    let bits: u32 = f32::to_bits(lin);
+    let lin = f32::from(gain_q8) / 255.0;
+    let bits = lin.to_bits();
     let exp = ((bits >> 23) % 256) as i32 - 127;
-    let mantissa: f32 = f32::from_bits(bits % 0x80_0000 + 0x3F80_0000);
+    let mantissa = f32::from_bits(bits % 0x80_0000 + 0x3F80_0000);
     let log2_val = exp as f32 + (mantissa - 1.0) * (1.4427 - 0.4427 * (mantissa - 1.0));
     let log10_val = log2_val * 0.30103;
     clamp_f32(20.0 * log10_val, -96.0, 0.0)

@@ -14,11 +14,11 @@ pub use floats::{clamp_f32, db_to_q8, float_of, q8_to_db};
 // A 32-bit phase; its top bits index a wave.
 pub type Phase = u32;
 
-// A source's answer to a request for a sample; the source's `Option<i8>`.
-#[derive(Clone, Copy)]
-pub enum Given {
-    Sample(i8),
-    None,
+// What a call gives, and the oscillator, source or voice after it.
+#[derive(Clone, Copy, Debug, PartialEq, Eq)]
+pub struct Step<V, T> {
+    pub voice: V,
+    pub given: T,
 }
 
 // The phase's step per sample, modulo 2^32.
@@ -28,8 +28,8 @@ pub fn hz_to_phase_inc(freq_hz: u32, sample_rate_hz: u32) -> u32
     if sample_rate_hz == 0 {
         return 0;
     }
-    let wide = (freq_hz as u64) * 0x1_0000_0000;
-    (wide / (sample_rate_hz as u64) % 0x1_0000_0000) as u32
+    let wide = u64::from(freq_hz) * 0x1_0000_0000;
+    (wide / u64::from(sample_rate_hz) % 0x1_0000_0000) as u32
 }
 
 pub fn phase_index(phase: Phase) -> u8
@@ -49,9 +49,8 @@ pub fn phase_fraction(phase: Phase) -> u8
 fn fold(index: u8) -> u16
     ensures { result ≡ min (2 * index) (510 - 2 * index) }
 {
-    let up = 2 * (index as u16);
-    let down = 510 - up;
-    if up < down { up } else { down }
+    let up = 2 * u16::from(index);
+    up.min(510 - up)
 }
 
 // Both halves by one product, y × (255 - 2x): the second factor is 255 - y in the first half and y - 255 in the other, so it has the
@@ -60,7 +59,7 @@ pub fn sin_table(index: u8) -> i8
     ensures { result ≡ sine index }
 {
     let y = fold(index) as i16;
-    let up = 2 * (index as i16);
+    let up = 2 * i16::from(index);
     (y * (255 - up) / 256) as i8
 }
 
@@ -68,31 +67,23 @@ pub fn sin_table(index: u8) -> i8
 pub fn as_i8(b: u8) -> i8
     ensures { result ≡ to_z w8 b }
 {
-    if b < 128 {
-        b as i8
-    } else {
-        (b as i16 - 256) as i8
-    }
+    b.cast_signed()
 }
 
 // The source's `s as u8`: its bits.
 pub fn as_u8(s: i8) -> u8
     ensures { result ≡ of_z w8 s }
 {
-    if s < 0 {
-        (s as i16 + 256) as u8
-    } else {
-        s as u8
-    }
+    s.cast_unsigned()
 }
 
 // From a toward b by t 256ths: no clamp is needed, since the result lies between the two.
 pub fn lerp_i8(a: i8, b: i8, frac: u8) -> i8
     ensures { result ≡ toward a b frac }
 {
-    let x = a as i32;
-    let d = (b as i32) - x;
-    (x + d * (frac as i32) / 256) as i8
+    let x = i32::from(a);
+    let d = i32::from(b) - x;
+    (x + d * i32::from(frac) / 256) as i8
 }
 
 pub fn mix_crossfade(a: i8, b: i8, t_q8: u8) -> i8
@@ -108,7 +99,7 @@ pub fn gain_factor(gain_q8: u8, whole: bool) -> u16
     if gain_q8 == 255 {
         if whole { 256 } else { 255 }
     } else {
-        gain_q8 as u16
+        u16::from(gain_q8)
     }
 }
 
@@ -118,7 +109,7 @@ pub fn apply_gain_by(sample: i8, gain_q8: u8, whole: bool) -> i8
     if whole && gain_q8 == 255 {
         return sample;
     }
-    (((sample as i16) * (gain_q8 as i16)) >> 8) as i8
+    ((i16::from(sample) * i16::from(gain_q8)) >> 8) as i8
 }
 
 // The present rule: 255 hands the sample through.
@@ -135,20 +126,15 @@ pub fn apply_document_01_gain(sample: i8, gain_q8: u8) -> i8
     apply_gain_by(sample, gain_q8, false)
 }
 
+#[tactic(auto, using(std::proofs::lemmas::Int::ints, std::proofs::lemmas::Int::clamps), unfolding(laws::specs::Whole::held_to))]
 pub fn clamp_sample(v: i32) -> i8
     ensures { result ≡ held_to (neg 128) (pos 127) v }
 {
-    if v < -128 {
-        -128
-    } else if v > 127 {
-        127
-    } else {
-        v as i8
-    }
+    v.clamp(-128, 127) as i8
 }
 
 // The gains of the two sides; a pair in the source.
-#[derive(Clone, Copy)]
+#[derive(Clone, Copy, Debug, PartialEq, Eq)]
 pub struct PanGains {
     pub left: u8,
     pub right: u8,
@@ -157,7 +143,7 @@ pub struct PanGains {
 pub fn pan_to_gains_q8(pan_q8: u8) -> PanGains
     ensures { result ≡ pan_gains pan_q8 }
 {
-    let pan = pan_q8 as u32;
+    let pan = u32::from(pan_q8);
     if pan <= 128 {
         PanGains {
             left: 255,
@@ -187,10 +173,10 @@ fn pressed(room: u32, n: u32) -> u32
 pub fn soft_limit_i8(sum: i32) -> i8
     ensures { result ≡ limited sum }
 {
+    let n = sum.unsigned_abs();
     if sum < 0 {
-        let n = (0 - (sum as i64)) as u32;
-        0 - (pressed(32, n) as i8)
+        -(pressed(32, n) as i8)
     } else {
-        pressed(31, sum as u32) as i8
+        pressed(31, n) as i8
     }
 }

@@ -4,20 +4,19 @@ use lib.Seq.{sets}
 use Rattle.laws.specs.Runs.{after, given}
 use Rattle.laws.proofs.Stores.{length-cells, sets-front}
 use Rattle.fixed.specs.Answers.{heard, Filled}
-use Rattle.fixed.specs.declared.Given.{Given}
-use Rattle.fixed.specs.declared.Given.TheVariants as G
+use Rattle.fixed.specs.declared.Step.{Step}
+use Rattle.std.specs.Prelude.{Option, Some, None}
 use Rattle.fm.specs.declared.FmVoice.{FmVoice}
-use Rattle.fm.specs.declared.FmStep.{FmStep}
 use Rattle.fm.specs.Fm.{fm_sample, advanced_fm, stepped_fm}
 use Rattle.fm.specs.Blocks.{next_fm, fm_run, fm_samples}
 
 -- ---- answers that are all samples, or all none
-heard-samples : (l : List ℤ) → heard (map G.Sample l) ≡ l
+heard-samples : (l : List ℤ) → heard (map Some l) ≡ l
 unfolding heard
 heard-samples [] = refl
 heard-samples (s ∷ l) = ap (λ (r : List ℤ). s ∷ r) (heard-samples l)
 
-heard-none : (n : ℕ) → heard (replicate n G.None) ≡ []
+heard-none : (n : ℕ) → heard (replicate n None) ≡ []
 unfolding heard
 heard-none zero = refl
 heard-none (suc n) = heard-none n
@@ -27,7 +26,7 @@ next-active : (v : FmVoice) → v.active ≡ true → next_fm v ≡ advanced_fm 
 unfolding stepped_fm
 next-active v e = rw e
 
-gives-active : (v : FmVoice) → v.active ≡ true → (stepped_fm v).given ≡ G.Sample (fm_sample v)
+gives-active : (v : FmVoice) → v.active ≡ true → (stepped_fm v).given ≡ Some (fm_sample v)
 unfolding stepped_fm
 gives-active v e = rw e
 
@@ -36,12 +35,12 @@ unfolding after
 fm-after zero v e = refl
 fm-after (suc n) v e = ap (λ (x : FmVoice). after next_fm n x) (next-active v e) ∙ fm-after n (advanced_fm v) e
 
-pub fm-run : (n : ℕ) (v : FmVoice) → v.active ≡ true → fm_run n v ≡ map G.Sample (fm_samples n v)
+pub fm-run : (n : ℕ) (v : FmVoice) → v.active ≡ true → fm_run n v ≡ map Some (fm_samples n v)
 unfolding given
 fm-run zero v e = refl
 fm-run (suc n) v e =
-    ap (λ (g : Given). g ∷ fm_run n (next_fm v)) (gives-active v e)
-    ∙ ap (λ (l : List Given). G.Sample (fm_sample v) ∷ l) (ap (λ (x : FmVoice). fm_run n x) (next-active v e) ∙ fm-run n (advanced_fm v) e)
+    ap (λ (g : Option ℤ). g ∷ fm_run n (next_fm v)) (gives-active v e)
+    ∙ ap (λ (l : List (Option ℤ)). Some (fm_sample v) ∷ l) (ap (λ (x : FmVoice). fm_run n x) (next-active v e) ∙ fm-run n (advanced_fm v) e)
 
 pub fm-heard : (n : ℕ) (v : FmVoice) → v.active ≡ true → heard (fm_run n v) ≡ fm_samples n v
 fm-heard n v e = ap heard (fm-run n v e) ∙ heard-samples (fm_samples n v)
@@ -51,7 +50,7 @@ next-inactive : (v : FmVoice) → v.active ≡ false → next_fm v ≡ v
 unfolding stepped_fm
 next-inactive v e = rw e
 
-gives-inactive : (v : FmVoice) → v.active ≡ false → (stepped_fm v).given ≡ G.None
+gives-inactive : (v : FmVoice) → v.active ≡ false → (stepped_fm v).given ≡ None
 unfolding stepped_fm
 gives-inactive v e = rw e
 
@@ -60,12 +59,12 @@ unfolding after
 fm-stays zero v e = refl
 fm-stays (suc n) v e = ap (λ (x : FmVoice). after next_fm n x) (next-inactive v e) ∙ fm-stays n v e
 
-pub fm-run-none : (n : ℕ) (v : FmVoice) → v.active ≡ false → fm_run n v ≡ replicate n G.None
+pub fm-run-none : (n : ℕ) (v : FmVoice) → v.active ≡ false → fm_run n v ≡ replicate n None
 unfolding given
 fm-run-none zero v e = refl
 fm-run-none (suc n) v e =
-    ap (λ (g : Given). g ∷ fm_run n (next_fm v)) (gives-inactive v e)
-    ∙ ap (λ (l : List Given). G.None ∷ l) (ap (λ (x : FmVoice). fm_run n x) (next-inactive v e) ∙ fm-run-none n v e)
+    ap (λ (g : Option ℤ). g ∷ fm_run n (next_fm v)) (gives-inactive v e)
+    ∙ ap (λ (l : List (Option ℤ)). None ∷ l) (ap (λ (x : FmVoice). fm_run n x) (next-inactive v e) ∙ fm-run-none n v e)
 
 pub fm-silent : (n : ℕ) (v : FmVoice) → v.active ≡ false → heard (fm_run n v) ≡ []
 fm-silent n v e = ap heard (fm-run-none n v e) ∙ heard-none n
@@ -76,7 +75,7 @@ unfolding stepped_fm
 active-kept v = by-test v.active
   where
     by-test : (b : Bool) →
-        (cond {A = FmStep} b (record { voice = advanced_fm v; given = G.Sample (fm_sample v) }) (record { voice = v; given = G.None })).voice.active
+        (cond {A = Step FmVoice (Option ℤ)} b (record { voice = advanced_fm v; given = Some (fm_sample v) }) (record { voice = v; given = None })).voice.active
         ≡ v.active
     by-test true = refl
     by-test false = refl

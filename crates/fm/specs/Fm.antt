@@ -1,12 +1,11 @@
 -- FM: the sine plus 128, the sample between two neighbours, and what each call makes of the oscillator. Assumes nothing.
-use Rattle.std.specs.Prelude.{ℕ, ◌+◌, ◌*◌, ◌/◌, ◌%◌, ◌^◌, true, false, cond, ℤ, pos, ◌+ℤ◌, ◌*ℤ◌, unsigned_abs}
+use Rattle.std.specs.Prelude.{ℕ, ◌+◌, ◌*◌, ◌/◌, ◌%◌, ◌^◌, true, false, cond, ℤ, pos, ◌+ℤ◌, ◌*ℤ◌, unsigned_abs, Option, Some, None}
 use Rattle.std.specs.Int.{w8}
 use Rattle.std.proofs.Common.{to_z}
 use Rattle.laws.specs.Whole.{floor_div, modulo}
 use Rattle.fixed.specs.Fixed.{increment, index_of, fraction_of, sine, toward}
-use Rattle.fixed.specs.declared.Given.TheVariants as G
+use Rattle.fixed.specs.declared.Step.{Step}
 use Rattle.fm.specs.declared.FmVoice.{FmVoice}
-use Rattle.fm.specs.declared.FmStep.{FmStep}
 
 -- "The 256-entry FM table holds that value plus 128": the sine, which lies above −128
 abbrev pub table_entry : ℕ → ℕ
@@ -76,8 +75,8 @@ unfoldable pub fm_sample : FmVoice → ℤ
 fm_sample v = sample_at v.carrier_phase v.mod_phase v.mod_depth_q8
 
 -- a request: none while inactive; "FM never ends"
-unfoldable pub stepped_fm : FmVoice → FmStep
+unfoldable pub stepped_fm : FmVoice → Step FmVoice (Option ℤ)
 stepped_fm v =
     cond v.active
-    (record { voice = advanced_fm v; given = G.Sample (fm_sample v) })
-    (record { voice = v; given = G.None })
+    (record { voice = advanced_fm v; given = Some (fm_sample v) })
+    (record { voice = v; given = None })

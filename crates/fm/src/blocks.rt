@@ -6,13 +6,8 @@ ghost use Rattle.fixed.specs.Answers.{Filled};
 ghost use Rattle.fm.specs.Fm.{advanced_fm};
 ghost use Rattle.fm.specs.Blocks.{next_fm, fm_run, fm_samples};
 
-use super::{FmFilled, FmVoice, sample_at};
-
-fn lesser(a: usize, b: usize) -> usize
-    ensures { result ≡ min a b }
-{
-    if a < b { a } else { b }
-}
+use super::{FmVoice, sample_at};
+use fixed::Step;
 
 impl FmVoice {
     // n samples of an active oscillator.
@@ -25,8 +20,8 @@ impl FmVoice {
         let mut modulator = self.mod_phase;
         for k in 0..n {
             out[k] = sample_at(carrier, modulator, self.mod_depth_q8);
-            carrier = std::num::wrapping_add_u32(carrier, self.carrier_inc);
-            modulator = std::num::wrapping_add_u32(modulator, self.mod_inc);
+            carrier = carrier.wrapping_add(self.carrier_inc);
+            modulator = modulator.wrapping_add(self.mod_inc);
         }
         FmVoice {
             carrier_phase: carrier,
@@ -36,18 +31,16 @@ impl FmVoice {
     }
 
     // As many requests as are asked for, 256 at most.
-    pub fn fill(self, len: usize, out: &mut [i8; 256]) -> FmFilled
+    pub fn fill(self, len: usize, out: &mut [i8; 256]) -> Step<FmVoice, usize>
         ensures voice_value { result.voice ≡ after next_fm (min len 256) self }
         ensures filled { Filled (fm_run (min len 256) self) out.old result.given out.new }
     {
-        // A contract says nothing of a lent array's length; as a slice it has one.
-        let cells: &mut [i8] = out;
-        let n = lesser(len, cells.len());
         if self.active {
+            let n = len.min(256);
             let voice = self.samples(n, out);
-            FmFilled { voice, given: n }
+            Step { voice, given: n }
         } else {
-            FmFilled {
+            Step {
                 voice: self,
                 given: 0,
             }

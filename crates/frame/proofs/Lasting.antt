@@ -7,7 +7,6 @@ use mathlib.Core.Bool.{Bool, true, false, cond, ◌&&◌}
 use mathlib.Core.List.{List, [], ◌∷◌}
 use borrow.Author.Tests.{eqb-true, eqb-false}
 use lib.Dec.{eqb}
-use lib.ListN.{}
 use Rattle.config.specs.Config.{rounded_up}
 use Rattle.laws.specs.Lists.{only}
 use Rattle.laws.proofs.Bools.{never}

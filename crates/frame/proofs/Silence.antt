@@ -1,4 +1,5 @@
 -- What is silent stays silent. Assumes nothing.
+use Rattle.std.specs.Prelude.{None, Option}
 use Prim.Native.Nat.{ℕ, suc, ◌≤◌, ◌<◌}
 use native.Mathlib.Nat.{zero-mul}
 use native.Mathlib.Omega.{arith}
@@ -9,7 +10,6 @@ use lib.Dec.{eqb}
 use lib.IntN.{ℤ, pos}
 use lib.ListN.{length, take, set}
 use lib.Seq.{take-set-lt, get_or-take, length-take-le}
-use Rattle.fixed.specs.declared.Given.TheVariants as G
 use Rattle.laws.specs.Lists.{All}
 use Rattle.frame.specs.Places.{map_at}
 use Rattle.laws.proofs.Lists.{all_set, all-get, all_map, all-imp, all_take, take-map_first, map_first-same}
@@ -17,8 +17,6 @@ use Rattle.mixer.specs.Mixers.{Valid, voices_of}
 use Rattle.mixer.specs.declared.Mixer.{Mixer}
 use Rattle.voice.specs.Voices.{silent_voice, stopped_voice, audible, ticked_voice, stepped_voice, sample_by, pair_by}
 use Rattle.voice.specs.declared.source.VoiceSource.TheVariants as S
-use Rattle.voice.specs.declared.StereoGiven.{StereoGiven}
-use Rattle.voice.specs.declared.StereoGiven.TheVariants as P
 use Rattle.frame.proofs.Ends.{stopped-unheard, after-inactive, taken-unheard}
 use Rattle.frame.proofs.Laws.{valid-advanced, valid-enveloped, sampled-there}
 use Rattle.voice.specs.declared.Voice.{Voice}
@@ -89,7 +87,7 @@ module _ (r : Marks) where
   unfolding mono_mix averaged crossed
   no-mix m h k a = by-active m.crossfade_active refl
     where
-      idle : (i : ℕ) (w : Bool) → i < m.n → sample_by w (voice_at m i) ≡ G.None
+      idle : (i : ℕ) (w : Bool) → i < m.n → sample_by w (voice_at m i) ≡ None
       idle i w l =
           let e : length (voices_of m) ≡ m.n = length-take-le m.n m.voices k in
           let v : Idle (voice_at m i) = rw (← get_or-take m.n m.voices i (silent_voice 0) l) (all-get Idle (voices_of m) i (silent_voice 0) a (omega arith)) in
@@ -103,7 +101,7 @@ module _ (r : Marks) where
   silent-level : (m : Mixer) → leveled r m (pos 0) ≡ pos 0
   silent-level m = rw zero-mul
 
-  no-side : (side : StereoGiven → ℤ) → side P.None ≡ pos 0 → (i : ℕ) (l : List Voice) → All Idle l
+  no-side : (side : Option (ℤ × ℤ) → ℤ) → side None ≡ pos 0 → (i : ℕ) (l : List Voice) → All Idle l
       → side_total side (map_at (λ i v. pair_by (rule_at r i) v) i l) ≡ pos 0
   unfolding side_total map_at
   no-side side z i [] a = refl

@@ -1,4 +1,5 @@
 -- A box of one voice with every gain at 255 hands its source's sample to the limiter unchanged: handed-through. Assumes nothing.
+use Rattle.std.specs.Prelude.{Option, Some}
 use Prim.Native.Nat.{◌≤◌}
 use native.Mathlib.Omega.{arith}
 use mathlib.Core.Path.{◌≡◌, refl, ap, ◌∙◌}
@@ -9,7 +10,6 @@ use lib.Dec.{leb}
 use lib.IntN.{ℤ, +ℤ_idr}
 use lib.ListN.{length, get_or, take}
 use Rattle.fixed.specs.Fixed.{gained_by, pan_gains, limited}
-use Rattle.fixed.specs.declared.Given.TheVariants as G
 use Rattle.fixed.proofs.Laws.{through}
 use Rattle.laws.proofs.Lists.{take-map_first}
 use Rattle.marks.specs.Marks.{Valid}
@@ -19,7 +19,6 @@ use Rattle.mixer.specs.Mixers.{voices_of}
 use Rattle.mixer.specs.declared.Mixer.{Mixer}
 use Rattle.voice.specs.Sources.{stepped_source}
 use Rattle.voice.specs.Voices.{silent_voice, ticked_voice, sample_by, pair_by}
-use Rattle.voice.specs.declared.StereoGiven.{StereoGiven}
 use Rattle.voice.specs.declared.Voice.{Voice}
 use Rattle.frame.specs.Fades.{voice_at, advanced_by, marks_advanced}
 use Rattle.frame.specs.Frames.{enveloped, leveled, total, given_count, averaged, mono_mix, mono_frame_by, left_of, right_of, side_total, pairs_of, stereo_frame_by}
@@ -45,10 +44,10 @@ unfolding enveloped
 only-heard m e h = take-map_first ticked_voice m.n m.voices ∙ rw e (first_of ticked_voice (silent_voice 0) m.voices h)
 
 -- ---- its sample, on its own and on a side whose pan gain is 255
-module _ (v : Voice) (raw : ℤ) (gives : (stepped_source v.source).given ≡ G.Sample raw) (level : v.adsr.level_q8 ≡ 255) (gain : v.gain_q8 ≡ 255) where
-  sample-whole : sample_by true v ≡ G.Sample raw
+module _ (v : Voice) (raw : ℤ) (gives : (stepped_source v.source).given ≡ Some raw) (level : v.adsr.level_q8 ≡ 255) (gain : v.gain_q8 ≡ 255) where
+  sample-whole : sample_by true v ≡ Some raw
   unfolding sample_by
-  sample-whole = rw (gives, level, gain) (ap G.Sample (ap (λ (s : ℤ). gained_by true s 255) (through raw) ∙ through raw))
+  sample-whole = rw (gives, level, gain) (ap Some (ap (λ (s : ℤ). gained_by true s 255) (through raw) ∙ through raw))
 
   left-whole : v.pan_q8 ≤ 128 → left_of (pair_by true v) ≡ raw
   unfolding pair_by
@@ -71,7 +70,7 @@ module _ {p : Present} {raw : ℤ} (h : Valid p) (a : AllAt255 p raw) where
   unfolding mono_mix averaged total given_count map_at enveloped
   mix-whole = rw (a.still, heard-alone, a.voice_whole, sample-whole (heard p) raw a.gives a.level a.gain) (+ℤ_idr raw)
 
-  side-whole : (side : StereoGiven → ℤ) → side (pair_by true (heard p)) ≡ raw → side_total side (pairs_of p.marks (voices_of (enveloped p.mixer))) ≡ raw
+  side-whole : (side : Option (ℤ × ℤ) → ℤ) → side (pair_by true (heard p)) ≡ raw → side_total side (pairs_of p.marks (voices_of (enveloped p.mixer))) ≡ raw
   unfolding side_total map_at
   side-whole side e = rw (heard-alone, a.voice_whole, e) (+ℤ_idr raw)
 

@@ -1,8 +1,6 @@
 -- One mono frame, its duty, and one stereo frame. Assumes nothing.
-use Rattle.std.specs.Prelude.{ℕ, suc, false, cond, List, [], ◌∷◌, ltb, ℤ, pos, ◌+ℤ◌}
+use Rattle.std.specs.Prelude.{ℕ, suc, false, cond, List, [], ◌∷◌, ltb, ℤ, pos, ◌+ℤ◌, None, Option, Some}
 use Rattle.fixed.specs.Fixed.{toward, gained_by, limited}
-use Rattle.fixed.specs.declared.Given.{Given}
-use Rattle.fixed.specs.declared.Given.TheVariants as G
 use Rattle.laws.specs.Lists.{map_first}
 use Rattle.frame.specs.Places.{map_at}
 use Rattle.laws.specs.Whole.{trunc_div}
@@ -11,8 +9,6 @@ use Rattle.mixer.specs.declared.Mixer.{Mixer}
 use Rattle.output.specs.Duty.{mapped}
 use Rattle.output.specs.declared.PwmMapper.{PwmMapper}
 use Rattle.voice.specs.Voices.{ticked_voice, stepped_voice, sample_by, pair_by}
-use Rattle.voice.specs.declared.StereoGiven.{StereoGiven}
-use Rattle.voice.specs.declared.StereoGiven.TheVariants as P
 use Rattle.voice.specs.declared.Voice.{Voice}
 use Rattle.frame.specs.Fades.{advanced_by, voice_at, marks_advanced}
 use Rattle.marks.specs.Marks.{no_marks, rule_at}
@@ -40,29 +36,29 @@ leveled r m sum = gained_by r.master (limited sum) m.config.master_gain_q8
 -- ---- mono
 
 -- the sum of the samples given, and how many were
-unfoldable pub total : List Given → ℤ
+unfoldable pub total : List (Option ℤ) → ℤ
 total [] = pos 0
-total (G.Sample s ∷ gs) = s +ℤ total gs
-total (G.None ∷ gs) = total gs
+total (Some s ∷ gs) = s +ℤ total gs
+total (None ∷ gs) = total gs
 
-unfoldable pub given_count : List Given → ℕ
+unfoldable pub given_count : List (Option ℤ) → ℕ
 given_count [] = 0
-given_count (G.Sample s ∷ gs) = suc (given_count gs)
-given_count (G.None ∷ gs) = given_count gs
+given_count (Some s ∷ gs) = suc (given_count gs)
+given_count (None ∷ gs) = given_count gs
 
 -- "Mono divides the sum, truncated, by the number of samples given when that exceeds 1."
-unfoldable pub averaged : List Given → ℤ
+unfoldable pub averaged : List (Option ℤ) → ℤ
 averaged gs = cond (ltb 1 (given_count gs)) (trunc_div (total gs) (given_count gs)) (total gs)
 
 -- "a + truncated((b − a) × t ÷ 256), or the one that gave a sample"
-unfoldable pub crossed : ℕ → Given → Given → ℤ
-crossed t (G.Sample a) (G.Sample b) = toward a b t
-crossed t (G.Sample a) G.None = a
-crossed t G.None (G.Sample b) = b
-crossed t G.None G.None = pos 0
+unfoldable pub crossed : ℕ → Option ℤ → Option ℤ → ℤ
+crossed t (Some a) (Some b) = toward a b t
+crossed t (Some a) None = a
+crossed t None (Some b) = b
+crossed t None None = pos 0
 
 -- voices' samples, each by the rule of its place
-abbrev pub samples_of : Marks → List Voice → List Given
+abbrev pub samples_of : Marks → List Voice → List (Option ℤ)
 samples_of r vs = map_at (λ i v. sample_by (rule_at r i) v) 0 vs
 
 -- "During a fade only voices 0 and 1 are sampled"
@@ -124,21 +120,21 @@ ValidStereo f = Valid f.mixer
 
 -- ---- stereo
 
-abbrev pub left_of : StereoGiven → ℤ
-left_of (P.Pair l r) = l
-left_of P.None = pos 0
+abbrev pub left_of : Option (ℤ × ℤ) → ℤ
+left_of (Some (l, r)) = l
+left_of None = pos 0
 
-abbrev pub right_of : StereoGiven → ℤ
-right_of (P.Pair l r) = r
-right_of P.None = pos 0
+abbrev pub right_of : Option (ℤ × ℤ) → ℤ
+right_of (Some (l, r)) = r
+right_of None = pos 0
 
 -- the sum of a side over the voices, undivided
-unfoldable pub side_total : (StereoGiven → ℤ) → List StereoGiven → ℤ
+unfoldable pub side_total : (Option (ℤ × ℤ) → ℤ) → List (Option (ℤ × ℤ)) → ℤ
 side_total side [] = pos 0
 side_total side (g ∷ gs) = side g +ℤ side_total side gs
 
 -- voices' samples on both sides, each by the rule of its place
-abbrev pub pairs_of : Marks → List Voice → List StereoGiven
+abbrev pub pairs_of : Marks → List Voice → List (Option (ℤ × ℤ))
 pairs_of r vs = map_at (λ i v. pair_by (rule_at r i) v) 0 vs
 
 abbrev pub stereo_given : Marks → Mixer → StereoFrame

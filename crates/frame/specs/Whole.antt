@@ -1,8 +1,7 @@
 -- Document 02's T-03 over a whole frame: with every gain at 255 a voice's sample comes to the limiter as its source gave it, and the
 -- limiter's to the listener. Assumes nothing.
-use Rattle.std.specs.Prelude.{◌≤◌, ◌≡◌, true, false, ℤ}
+use Rattle.std.specs.Prelude.{◌≤◌, ◌≡◌, true, false, ℤ, Some}
 use Rattle.fixed.specs.Fixed.{limited}
-use Rattle.fixed.specs.declared.Given.TheVariants as G
 use Rattle.marks.specs.Marks.{rule_at}
 use Rattle.marks.specs.declared.Present.{Present}
 use Rattle.voice.specs.Sources.{stepped_source}
@@ -19,7 +18,7 @@ heard p = ticked_voice (voice_at p.mixer 0)
 pub record AllAt255 (p : Present) (raw : ℤ) : Type 0 where
   pub one : p.mixer.n ≡ 1
   pub still : p.mixer.crossfade_active ≡ false
-  pub gives : (stepped_source (heard p).source).given ≡ G.Sample raw
+  pub gives : (stepped_source (heard p).source).given ≡ Some raw
   pub level : (heard p).adsr.level_q8 ≡ 255
   pub gain : (heard p).gain_q8 ≡ 255
   pub master : p.mixer.config.master_gain_q8 ≡ 255

@@ -86,7 +86,7 @@ fn read_some(
     Run { more: false, ..t }
 }
 
-// A proved loop has to end, and nothing says that the input does: the turns are counted down from a number that no run uses up.
+// A proved loop has to end, and nothing says that the input does: the turns are counted to a number that no run reaches.
 fn main(rt: HostRuntime) {
     let mut input = rt.stdin();
     let mut line = [0u8; 17];
@@ -96,9 +96,10 @@ fn main(rt: HostRuntime) {
         more: true,
         sounder: framelist_answers::start(),
     };
-    let mut turns = u64::MAX;
-    while turns > 0 && r.more {
+    for _ in 0..u64::MAX {
+        if !r.more {
+            break;
+        }
         r = read_some(&rt, &mut input, r, &mut line, &mut out);
-        turns -= 1;
     }
 }

@@ -52,22 +52,13 @@ fn bad(s: Sounder, out: &mut [u8; 262144]) -> Answered
 fn is_tone(l: &[u8]) -> bool
     ensures { result ≡ is_tone l.now }
 {
-    if l.len() != 16 {
-        return false;
-    }
-    if byte_at(l, 0) != 0x01 {
-        return false;
-    }
-    byte_at(l, 7) <= 2
+    l.len() == 16 && byte_at(l, 0) == 0x01 && byte_at(l, 7) <= 2
 }
 
 fn is_frames(l: &[u8]) -> bool
     ensures { result ≡ is_frames l.now }
 {
-    if l.len() != 4 {
-        return false;
-    }
-    byte_at(l, 0) == 0x02
+    l.len() == 4 && byte_at(l, 0) == 0x02
 }
 
 fn tone_answer(l: &[u8], s: Sounder, out: &mut [u8; 262144]) -> Answered
@@ -99,14 +90,11 @@ fn frames_answer(count: u8, s: Sounder, out: &mut [u8; 262144]) -> Answered
 {
     let mut sounder = s;
     let mut at = 0;
-    let mut left = count;
-    while left > 0 {
+    for _ in 0..count {
         let d = ticked(sounder);
         let digits = put(out, at, d.duty as u64, 4);
         at = end_line(out, digits);
-        let after = d.sounder;
-        sounder = after;
-        left -= 1;
+        sounder = d.sounder;
     }
     Answered {
         len: at,

@@ -7,27 +7,7 @@ use native.Mathlib.Omega.{arith}
 use lib.ListN.{length, take, get_or, get_or-eq_default, set, drop, length-append, length-take}
 use lib.Seq.{sets, sets-eq, take_all, take-nil, take-append-le}
 use Rattle.laws.proofs.Lists.{sets-append, sets_last}
-use mathlib.Core.Bool.{Bool, true, false, ◌&&◌}
-use borrow.Author.Tests.{le-leb, lt-leb}
-use lib.Dec.{leb}
 use Rattle.hex_digits.specs.Hex.{between, digit_of, byte_at, wide_at, long_at, three_at, digit_char, hex_of, four_of, newline, fitting, Laid, Wrote}
-
--- where a byte lies
-pub inside : (lo hi c : ℕ) → lo ≤ c → c ≤ hi → between lo hi c ≡ true
-unfolding between
-inside lo hi c h k = rw (le-leb lo c h, le-leb c hi k)
-
-pub under : (lo hi c : ℕ) → c < lo → between lo hi c ≡ false
-unfolding between
-under lo hi c h = rw (lt-leb lo c h)
-
-pub over : (lo hi c : ℕ) → hi < c → between lo hi c ≡ false
-unfolding between
-over lo hi c h = rw (lt-leb c hi h) (by (leb lo c))
-  where
-    by : (b : Bool) → (b && false) ≡ false
-    by true = refl
-    by false = refl
 
 -- past a line's end every digit is 0, so every field is
 no_digit : (l : List ℕ) (i : ℕ) → length l ≤ i → digit_of (get_or l i 0) ≡ 0
@@ -37,14 +17,14 @@ no_digit l i h = rw (get_or-eq_default l 0 h)
 pub no_byte : (l : List ℕ) (k : ℕ) → length l / 2 < k → byte_at l k ≡ 0
 no_byte l k h = omega (arith, no_digit l (2 * k) (omega arith), no_digit l (2 * k + 1) (omega arith))
 
-pub no-wide : (l : List ℕ) (k : ℕ) → length l / 2 < k → wide_at l k ≡ 0
-no-wide l k h = omega (arith, no_byte l k h, no_byte l (k + 1) (omega arith))
+pub no_wide : (l : List ℕ) (k : ℕ) → length l / 2 < k → wide_at l k ≡ 0
+no_wide l k h = omega (arith, no_byte l k h, no_byte l (k + 1) (omega arith))
 
-pub no-long : (l : List ℕ) (k : ℕ) → length l / 2 < k → long_at l k ≡ 0
-no-long l k h = omega (arith, no-wide l k h, no-wide l (k + 2) (omega arith))
+pub no_long : (l : List ℕ) (k : ℕ) → length l / 2 < k → long_at l k ≡ 0
+no_long l k h = omega (arith, no_wide l k h, no_wide l (k + 2) (omega arith))
 
-pub no-three : (l : List ℕ) (k : ℕ) → length l / 2 < k → three_at l k ≡ 0
-no-three l k h = omega (arith, no-wide l k h, no_byte l (k + 2) (omega arith))
+pub no_three : (l : List ℕ) (k : ℕ) → length l / 2 < k → three_at l k ≡ 0
+no_three l k h = omega (arith, no_wide l k h, no_byte l (k + 2) (omega arith))
 
 pub length-hex_of : (d n : ℕ) → length (hex_of d n) ≡ d
 unfolding hex_of

@@ -1,6 +1,7 @@
 -- Hexadecimal as the replay format writes it: digits 0–9 and A–F, two to a byte, fields big-endian. Assumes nothing.
-use Rattle.std.specs.Prelude.{◌≡◌, ℕ, zero, suc, ◌+◌, ◌-◌, ◌*◌, ◌/◌, ◌%◌, ◌≤◌, Bool, true, cond, ◌&&◌, ◌||◌, List, [], ◌∷◌, ◌++◌, leb, ltb, length, get_or, take}
+use Rattle.std.specs.Prelude.{◌≡◌, ℕ, zero, suc, ◌+◌, ◌-◌, ◌*◌, ◌/◌, ◌%◌, ◌≤◌, Bool, cond, ◌&&◌, ◌||◌, List, [], ◌∷◌, ◌++◌, leb, ltb, length, get_or, take}
 use Rattle.std.proofs.lemmas.List.Edits.{sets}
+use Rattle.std.specs.List.{list_all}
 use Rattle.laws.specs.Runs.{given}
 
 unfoldable pub between : ℕ → ℕ → ℕ → Bool
@@ -11,8 +12,7 @@ abbrev pub is_digit : ℕ → Bool
 is_digit c = between 48 57 c || between 65 70 c
 
 unfoldable pub all_digits : List ℕ → Bool
-all_digits [] = true
-all_digits (c ∷ l) = is_digit c && all_digits l
+all_digits l = list_all is_digit l
 
 -- a digit's value; 0 for what is none
 unfoldable pub digit_of : ℕ → ℕ

@@ -3,39 +3,28 @@
 
 ghost use Rattle.std.specs.Prelude.{◌≡◌, ◌++◌, ◌+◌, ◌≤◌, ◌<◌, min, get_or};
 ghost use Rattle.std.proofs.lemmas.List.Edits.{sets};
-ghost use Rattle.std.specs.Int.{w16, w32, w64};
-ghost use Rattle.std.proofs.Common.{to_z, of_z};
 ghost use Rattle.hex_digits.specs.Hex.{is_digit, all_digits, digit_of, byte_at, wide_at, long_at, three_at, bytes_from, digit_char, hex_of, four_of, newline, Laid, Wrote};
 
+#[tactic(auto, unfolding(crate::specs::Hex::between))]
 fn is_digit(c: u8) -> bool
     ensures { result ≡ is_digit c }
 {
-    match c {
-        48..=57 => true,
-        65..=70 => true,
-        _ => false,
-    }
+    matches!(c, b'0'..=b'9' | b'A'..=b'F')
 }
 
 pub fn all_digits(l: &[u8]) -> bool
     ensures { result ≡ all_digits l.now }
 {
-    let mut i = 0;
-    while i < l.len() {
-        if !is_digit(l[i]) {
-            return false;
-        }
-        i += 1;
-    }
-    true
+    l.iter().all(|&c| is_digit(c))
 }
 
+#[tactic(auto, unfolding(crate::specs::Hex::digit_of, crate::specs::Hex::between))]
 fn digit(c: u8) -> u8
     ensures { (result ≡ digit_of c) × (result < 16) }
 {
     match c {
-        48..=57 => c - 48,
-        65..=70 => c - 55,
+        b'0'..=b'9' => c - b'0',
+        b'A'..=b'F' => c - b'A' + 10,
         _ => 0,
     }
 }
@@ -44,10 +33,12 @@ fn digit(c: u8) -> u8
 fn at(l: &[u8], i: usize) -> u8
     ensures { result ≡ get_or l.now i 0 }
 {
-    if i < l.len() { l[i] } else { 0 }
+    l.get(i).copied().unwrap_or(0)
 }
 
 // The fields of one byte, two, four and three, from byte k on; past the line's end there are no digits to look at.
+// One function for each: a generic one would give u64 to all, and each field has its own type here.
+#[tactic(auto, using(crate::proofs::Texts::no_byte))]
 pub fn byte_at(l: &[u8], k: usize) -> u8
     ensures { result ≡ byte_at l.now k }
 {
@@ -57,88 +48,42 @@ pub fn byte_at(l: &[u8], k: usize) -> u8
     16 * digit(at(l, 2 * k)) + digit(at(l, 2 * k + 1))
 }
 
+#[tactic(auto, using(crate::proofs::Texts::no_wide))]
 pub fn wide_at(l: &[u8], k: usize) -> u16
     ensures { result ≡ wide_at l.now k }
 {
     if k > l.len() / 2 {
         return 0;
     }
-    256 * (byte_at(l, k) as u16) + (byte_at(l, k + 1) as u16)
+    256 * u16::from(byte_at(l, k)) + u16::from(byte_at(l, k + 1))
 }
 
+#[tactic(auto, using(crate::proofs::Texts::no_long))]
 pub fn long_at(l: &[u8], k: usize) -> u32
     ensures { result ≡ long_at l.now k }
 {
     if k > l.len() / 2 {
         return 0;
     }
-    65536 * (wide_at(l, k) as u32) + (wide_at(l, k + 2) as u32)
+    65536 * u32::from(wide_at(l, k)) + u32::from(wide_at(l, k + 2))
 }
 
+#[tactic(auto, using(crate::proofs::Texts::no_three))]
 pub fn three_at(l: &[u8], k: usize) -> u32
     ensures { result ≡ three_at l.now k }
 {
     if k > l.len() / 2 {
         return 0;
     }
-    256 * (wide_at(l, k) as u32) + (byte_at(l, k + 2) as u32)
-}
-
-fn at_most_4096(n: usize) -> usize
-    ensures { (result ≡ min n 4096) × (result ≤ 4096) }
-{
-    if n < 4096 { n } else { 4096 }
+    256 * u32::from(wide_at(l, k)) + u32::from(byte_at(l, k + 2))
 }
 
 // So many bytes of a line from byte k on, into as many cells; no more than there are cells.
 pub fn bytes_from(l: &[u8], k: u8, n: usize, cells: &mut [u8; 4096])
     ensures { cells.new ≡ sets cells.old 0 (bytes_from l.now k (min n 4096)) }
 {
-    let m = at_most_4096(n);
-    for i in 0..m {
-        cells[i] = byte_at(l, (k as usize) + i);
-    }
-}
-
-// Two's complement, read and written; a byte's is in fixed.
-pub fn signed32(n: u32) -> i32
-    ensures { result ≡ to_z w32 n }
-{
-    if n < 0x8000_0000 {
-        n as i32
-    } else {
-        -1 - ((0xffff_ffff - n) as i32)
-    }
-}
-
-pub fn unsigned16(z: i16) -> u16
-    ensures { result ≡ of_z w16 z }
-{
-    if z < 0 {
-        65535 - ((-1 - z) as u16)
-    } else {
-        z as u16
-    }
-}
-
-pub fn unsigned32(z: i32) -> u32
-    ensures { result ≡ of_z w32 z }
-{
-    if z < 0 {
-        0xffff_ffff - ((-1 - z) as u32)
-    } else {
-        z as u32
-    }
-}
-
-// At 64 bits, as a dump has it.
-pub fn unsigned64(z: i32) -> u64
-    ensures { result ≡ of_z w64 z }
-{
-    if z < 0 {
-        0xffff_ffff_ffff_ffff - ((-1 - z) as u64)
-    } else {
-        z as u64
+    for (i, cell) in cells[..n.min(4096)].iter_mut().enumerate() {
+        *cell = byte_at(l, usize::from(k) + i);
     }
 }
 
@@ -146,7 +91,7 @@ fn digit_char(n: u8) -> u8
     requires { n < 16 }
     ensures { result ≡ digit_char n }
 {
-    if n < 10 { 48 + n } else { 55 + n }
+    if n < 10 { b'0' + n } else { b'A' + (n - 10) }
 }
 
 // The low digits of the value from a place on, the last one first; a digit past the buffer's end is left out. It gives the place after
@@ -157,17 +102,15 @@ pub fn put(out: &mut [u8; 262144], at: usize, value: u64, digits: u8) -> usize
     if at >= 262144 {
         return at;
     }
-    let end = at + (digits as usize);
-    let mut place = end;
+    let end = at + usize::from(digits);
     let mut rest = value;
-    while place > at {
-        place -= 1;
+    for place in (at..end).rev() {
         if place < 262144 {
             out[place] = digit_char((rest % 16) as u8);
         }
-        rest = rest / 16;
+        rest /= 16;
     }
-    if end < 262144 { end } else { 262144 }
+    end.min(262144)
 }
 
 pub fn put_four(out: &mut [u8; 262144], at: usize, a: u64, b: u64, c: u64, d: u64) -> usize
@@ -185,7 +128,7 @@ pub fn end_line(out: &mut [u8; 262144], at: usize) -> usize
     if at >= 262144 {
         return at;
     }
-    out[at] = 10;
+    out[at] = b'\n';
     at + 1
 }
 

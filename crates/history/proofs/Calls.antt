@@ -1,4 +1,5 @@
 -- Every call and frame keeps the order of the starts, so the box is what its history says. Assumes nothing.
+use Rattle.std.specs.Prelude.{Err, None, Ok, Option, Result, Some}
 use Prim.Native.Nat.{ℕ, zero, suc, ◌≤◌, ◌<◌}
 use native.Mathlib.Omega.{arith}
 use mathlib.Core.Path.{◌≡◌, refl, sym, ◌∙◌}
@@ -19,7 +20,7 @@ use Rattle.entering.specs.Entering.{voice_free, kept_after, entered, entered_in}
 use Rattle.entering.specs.declared.Lined.{Lined}
 use Rattle.entering.proofs.Laws.{entered-none, entered-free, entered-busy}
 use Rattle.envelope.specs.declared.AdsrSpec.{AdsrSpec}
-use Rattle.error.specs.Told.{Told, value, refused}
+use Rattle.error.specs.Told.{Told, told, value, refused}
 use Rattle.frame.specs.Lasting.{Step, frame, call, after_all}
 use Rattle.frame.proofs.Sized.{Sized}
 use Rattle.laws.specs.Lists.{All}
@@ -32,9 +33,6 @@ use Rattle.marks.proofs.Starts.{map-set}
 use Rattle.mixer.specs.Mixers as M
 use Rattle.mixer.specs.declared.Changed.{Changed}
 use Rattle.mixer.specs.declared.Mixer.{Mixer}
-use Rattle.mixer.specs.declared.Outcome.{Outcome}
-use Rattle.mixer.specs.declared.Outcome.TheVariants as O
-use Rattle.mixer.specs.declared.VoiceRead.TheVariants as R
 use Rattle.mixer.specs.declared.VoiceStealingPolicy.{VoiceStealingPolicy}
 use Rattle.play.specs.Fades as F
 use Rattle.play.specs.Plays as P
@@ -49,7 +47,6 @@ use Rattle.tone.specs.declared.Waveform.{Waveform}
 use Rattle.voice.specs.Voices.{audible, with_pan, silent_voice, released_voice, stopped_voice}
 use Rattle.voice.specs.declared.Voice.{Voice}
 use Rattle.waiting.specs.Lines.{in_line}
-use Rattle.waiting.specs.declared.Kept as W
 use Rattle.waiting.specs.declared.Waiting.{Waiting}
 use Rattle.waiting.proofs.Lists.{by-test}
 use Rattle.sounder.specs.Calls.{opened, fade_marks, bank_marks}
@@ -60,6 +57,7 @@ use Rattle.sounder.proofs.Settled.{silent, opened-silent, all-stopped}
 use Rattle.sounder.proofs.Valid.{panned-alike}
 use Rattle.history.specs.Histories.{History, unstarted, started_now, handed_now, faded_now, called_now01, called_now, entered_now, advanced_now, framed_now, history_of, ByHistory}
 use Rattle.history.proofs.Kept.{Kept, Rest, by-history, settled-kept, mono-kept, duty-kept, stereo-kept, begun_kept, begun-by-kept, changed-kept, silent-kept}
+use Rattle.error.specs.declared.AudioError.{AudioError}
 
 -- ---- play
 stored-others : (vs : List Voice) (i : ℕ) (v : Voice) (j : ℕ) → heard_at (map audible (set vs i v)) j ≡ true → (j ≡ i → ⊥) → heard_at (map audible vs) j ≡ true
@@ -72,12 +70,12 @@ stored-rest : (m : Mixer) (i : ℕ) (v : Voice) → i < m.n → Rest m → Rest 
 stored-rest m i v l a = rw (drop-set-lt m.n m.voices i v l) a
 
 played-kept : (p : Present) (h : History) (bytes : List ℕ) (r : Request) → Kept p h
-    → let q = P.played_under true p bytes r in Kept (left_by true p q) (handed_now (P.told_play q.outcome) h)
+    → let q = P.played_under true p bytes r in Kept (left_by true p q) (handed_now (told q.outcome) h)
 unfolding P.played_under
 played-kept p h bytes r k = by_both (allocated_in true p r.priority) refl (request_start_under true p.mixer.bank bytes r)
   where
     by_both : (a : Told ℕ) → allocated_in true p r.priority ≡ a → (s : Told Voice)
-        → let q = P.played_at p.mixer (P.placed_by a s) in Kept (left_by true p q) (handed_now (P.told_play q.outcome) h)
+        → let q = P.played_at p.mixer (P.placed_by a s) in Kept (left_by true p q) (handed_now (told q.outcome) h)
     by_both (refused n) e s = k
     by_both (value i) e (refused n) = k
     by_both (value i) e (value v) =
@@ -177,9 +175,9 @@ faded-kept : (on : Bool) (p : Present) (h : History) (c : Changed) → Kept p h 
 unfolding settled
 faded-kept on p h c k s r a = by-outcome c.outcome a
   where
-    by-outcome : (o : Outcome) → HeardBy o p.mixer c.mixer → Kept (settled (beside c.mixer (fade_marks on o p.marks))) (faded_now on o h)
-    by-outcome O.Done sub = begun-by-kept on _ (started_now 1 h) (begun_kept p h 1 c.mixer k (omega arith) s r sub)
-    by-outcome (O.Refused e) sub =
+    by-outcome : (o : Result (Unit {0}) AudioError) → HeardBy o p.mixer c.mixer → Kept (settled (beside c.mixer (fade_marks on o p.marks))) (faded_now on o h)
+    by-outcome (Ok tt) sub = begun-by-kept on _ (started_now 1 h) (begun_kept p h 1 c.mixer k (omega arith) s r sub)
+    by-outcome (Err e) sub =
         settled-kept c.mixer p.marks h s k.ready.marked (K.fewer-order k.ready.order sub)
         (record {
           master = k.alike.master;
@@ -201,7 +199,7 @@ panned-sized m i q s = by_place (ltb i m.n)
     v : Voice
     v = get_or m.voices i (silent_voice 0)
 
-    by_place : (t : Bool) → Sized (M.panned_at m i q (cond t (R.Voice v) R.None))
+    by_place : (t : Bool) → Sized (M.panned_at m i q (cond t (Some v) None))
     by_place true = stored-sized m i (with_pan v q) s
     by_place false = s
 
@@ -212,7 +210,7 @@ panned-rest m i q a = by_place (ltb i m.n) refl
     v : Voice
     v = get_or m.voices i (silent_voice 0)
 
-    by_place : (t : Bool) → ltb i m.n ≡ t → Rest (M.panned_at m i q (cond t (R.Voice v) R.None))
+    by_place : (t : Bool) → ltb i m.n ≡ t → Rest (M.panned_at m i q (cond t (Some v) None))
     by_place true e = stored-rest m i (with_pan v q) (ltb-true i m.n e) a
     by_place false e = a
 
@@ -278,7 +276,7 @@ call_kept (leave label r) s h k = k
 call_kept (withdraw label) s h k = k
 
 -- those that go in, one after another
-enter-kept : (bytes : List ℕ) (ws : List Waiting) (p : Present) (k : W.Kept) (h : History) → Kept p h → Kept (entered bytes p k ws).present (entered_now bytes p ws h)
+enter-kept : (bytes : List ℕ) (ws : List Waiting) (p : Present) (k : Option (AudioError × ℕ)) (h : History) → Kept p h → Kept (entered bytes p k ws).present (entered_now bytes p ws h)
 unfolding entered_now
 enter-kept bytes [] p k h c = rw (entered-none bytes p k) c
 enter-kept bytes (w ∷ ws) p k h c =
@@ -286,7 +284,7 @@ enter-kept bytes (w ∷ ws) p k h c =
     by-test voice_free p
     (λ e.
     rw (entered-free bytes p k w ws e, e)
-    (enter-kept bytes ws q.present (kept_after q.outcome w.label k) (handed_now (P.told_play q.outcome) h) (played-kept p h bytes w.request c)))
+    (enter-kept bytes ws q.present (kept_after q.outcome w.label k) (handed_now (told q.outcome) h) (played-kept p h bytes w.request c)))
     (λ e. rw (entered-busy bytes p k (w ∷ ws) e, e) c)
 
 frame-kept : (f : Lent) (s : Sounder) (h : History) → Kept s.state.present h → Kept (framed f s).state.present (framed_now f s h)
@@ -318,7 +316,7 @@ unfolding M.opened M.fresh
 opened-sized n config policy = go (ltb 16 n) (ltb 65537 config.sample_rate_hz) (ltb config.pwm_period 2) refl
   where
     go : (a b c : Bool) → ltb 16 n ≡ a
-        → Sized (cond a (M.not_opened 1) (cond b (M.not_opened 2) (cond c (M.not_opened 3) (record { outcome = O.Done; mixer = M.fresh n config policy })))).mixer
+        → Sized (cond a (M.not_opened 1) (cond b (M.not_opened 2) (cond c (M.not_opened 3) (record { outcome = (Ok tt); mixer = M.fresh n config policy })))).mixer
     go true b c e = record { few = omega arith; full = refl; fade = λ f. never f }
     go false true c e = record { few = omega arith; full = refl; fade = λ f. never f }
     go false false true e = record { few = omega arith; full = refl; fade = λ f. never f }

@@ -1,5 +1,6 @@
 -- From an opening on: a fade of the second call has its end after its count of frames, whatever comes between but a stop and another fade, and then the
 -- sound goes on. Assumes nothing.
+use Rattle.std.specs.Prelude.{Err, Ok, Result}
 use Prim.Native.Nat.{ℕ, ◌+◌, ◌≤◌}
 use native.Mathlib.Omega.{arith}
 use mathlib.Core.Path.{◌≡◌, refl, ap, sym, ◌∙◌}
@@ -13,7 +14,7 @@ use Rattle.config.specs.declared.AudioConfig.{AudioConfig}
 use Rattle.config.proofs.Laws.{step-least}
 use Rattle.entering.specs.Entering.{voice_free, entered_in}
 use Rattle.envelope.specs.declared.AdsrSpec.{AdsrSpec}
-use Rattle.error.specs.Told.{Told, value, refused, value_in, passed}
+use Rattle.error.specs.Told.{told, Told, value, refused, value_in, passed}
 use Rattle.frame.specs.Fades.{fade_ended_with, fade_ended_by, fade_at, next_t, advanced_by, advanced}
 use Rattle.frame.specs.Lasting.{fade_count, SameFade, Step, frame, call, after_all, frames_in, unbroken}
 use Rattle.frame.proofs.Alike.{marks-on}
@@ -22,14 +23,10 @@ use Rattle.laws.proofs.Bools.{never}
 use Rattle.marks.specs.Marks.{settled}
 use Rattle.marks.specs.declared.Present.{Present}
 use Rattle.mixer.specs.Mixers as M
-use Rattle.mixer.specs.Mixers.{told_outcome}
 use Rattle.mixer.specs.declared.Changed.{Changed}
 use Rattle.mixer.specs.declared.Mixer.{Mixer}
-use Rattle.mixer.specs.declared.Outcome.{Outcome}
-use Rattle.mixer.specs.declared.Outcome.TheVariants as O
 use Rattle.mixer.specs.declared.VoiceStealingPolicy.{VoiceStealingPolicy}
 use Rattle.play.specs.Fades as F
-use Rattle.play.specs.Plays.{told_play}
 use Rattle.requests.specs.Presents.{played_present}
 use Rattle.play.proofs.Laws.{OnOrNot, turned, began, on-or-not}
 use Rattle.play.proofs.Parted.{same-fade}
@@ -48,15 +45,16 @@ use Rattle.sounder.proofs.Sounding.{ready-sounds-on}
 use Rattle.sounder.proofs.Steps.{box-lawful, fade-on-takes}
 use Rattle.history.specs.Histories.{History, unstarted, handed_now, faded_now, called_now01, called_now, entered_now, framed_now, history_of}
 use Rattle.history.proofs.Calls.{from-opening, call_kept, along}
+use Rattle.error.specs.declared.AudioError.{AudioError}
 
 -- ---- what lets a fade go on leaves the call that began the last one
 handed-leaves : (t : Told ℕ) (h : History) → (handed_now t h).marks.sounds_on ≡ h.marks.sounds_on
 handed-leaves (value i) h = refl
 handed-leaves (refused n) h = refl
 
-down-leaves : (on : Bool) (o : Outcome) (h : History) → turned_down (told_outcome o) ≡ true → (faded_now on o h).marks.sounds_on ≡ h.marks.sounds_on
-down-leaves on O.Done h g = never g
-down-leaves on (O.Refused e) h g = refl
+down-leaves : (on : Bool) (o : Result (Unit {0}) AudioError) (h : History) → turned_down (told o) ≡ true → (faded_now on o h).marks.sounds_on ≡ h.marks.sounds_on
+down-leaves on (Ok tt) h g = never g
+down-leaves on (Err e) h g = refl
 
 -- a fade that one rule of a payload's refusal turns down, the other does
 down_by : (s t : Told (Unit {0})) → value_in s ≡ value_in t → turned_down t ≡ true → turned_down s ≡ true
@@ -65,7 +63,7 @@ down_by (value x) (refused n) e g = cc
 down_by (refused k) t e g = refl
 
 leaves01 : (c : S.Call) (s : Sounder) (h : History) → goes_on (by01 c) s ≡ true → (called_now01 c s h).marks.sounds_on ≡ h.marks.sounds_on
-leaves01 (play bytes r) s h g = handed-leaves (told_play (played s.state bytes r).outcome) h
+leaves01 (play bytes r) s h g = handed-leaves (told (played s.state bytes r).outcome) h
 leaves01 (tone hz ms w) s h g = refl
 leaves01 (poly_blep hz ms w) s h g = refl
 leaves01 (bank rate count len) s h g = refl
@@ -73,8 +71,8 @@ leaves01 (pan i q) s h g = refl
 leaves01 (master_gain gain) s h g = refl
 leaves01 stop s h g = refl
 leaves01 (fade bytes id ms adsr) s h g =
-    let o : Bool → Outcome = λ rule. (F.faded_under rule s.state.present.mixer bytes id ms adsr).outcome in
-    down-leaves false (o true) h (down_by (told_outcome (o true)) (told_outcome (o false)) (same-fade true false s.state.present.mixer bytes id ms adsr).done g)
+    let o : Bool → Result (Unit {0}) AudioError = λ rule. (F.faded_under rule s.state.present.mixer bytes id ms adsr).outcome in
+    down-leaves false (o true) h (down_by (told (o true)) (told (o false)) (same-fade true false s.state.present.mixer bytes id ms adsr).done g)
 leaves01 look s h g = refl
 
 call-leaves : (c : Call) (s : Sounder) (h : History) → goes_on c s ≡ true → (called_now c s h).marks.sounds_on ≡ h.marks.sounds_on
@@ -90,7 +88,7 @@ entered-leaves bytes [] p h = refl
 entered-leaves bytes (w ∷ ws) p h =
     let q = played_present p bytes w.request in
     by-test voice_free p
-    (λ e. rw e (entered-leaves bytes ws q.present (handed_now (told_play q.outcome) h) ∙ handed-leaves (told_play q.outcome) h))
+    (λ e. rw e (entered-leaves bytes ws q.present (handed_now (told q.outcome) h) ∙ handed-leaves (told q.outcome) h))
     (λ e. rw e)
 
 both : (a : Bool) {b : Bool} → a && b ≡ true → (a ≡ true) × (b ≡ true)
@@ -130,14 +128,14 @@ steps-move (call c ∷ ss) s k u = let g = both (goes_on c s) u in steps-move ss
 
 -- ---- a fade that is accepted
 abbrev Begun : Changed → Type 0
-Begun c = c.outcome ≡ O.Done → 1 ≤ c.mixer.crossfade_step_q8
+Begun c = c.outcome ≡ (Ok tt) → 1 ≤ c.mixer.crossfade_step_q8
 
 begun-step : (m : Mixer) (bytes : List ℕ) (id ms : ℕ) (adsr : AdsrSpec) → Begun (F.faded_under true m bytes id ms adsr)
 unfolding F.faded_under F.faded_by F.first_released F.begun
 begun-step m bytes id ms adsr = by_count (ltb m.n 2)
   where
     none : (n : ℕ) (x : Mixer) → Begun (M.unchanged x n)
-    none n x e = never (ap (λ (o : Outcome). turned_down (told_outcome o)) (sym e))
+    none n x e = never (ap (λ (o : Result (Unit {0}) AudioError). turned_down (told o)) (sym e))
 
     by-start : (t : Told Voice) → Begun (F.faded_by (F.first_released m) ms t)
     by-start (refused n) = none n (F.first_released m)
@@ -151,27 +149,27 @@ begun-step m bytes id ms adsr = by_count (ltb m.n 2)
     by_count true = none 5 m
     by_count false = by-entry (found_given m.bank bytes id)
 
-module _ (s : Sounder) (bytes : List ℕ) (id ms : ℕ) (adsr : AdsrSpec) (a : told_outcome (faded_on s.state bytes id ms adsr).outcome ≡ passed) where
+module _ (s : Sounder) (bytes : List ℕ) (id ms : ℕ) (adsr : AdsrSpec) (a : told (faded_on s.state bytes id ms adsr).outcome ≡ passed) where
   accepted-moves : Moves (F.faded_on s.state.present.mixer bytes id ms adsr).mixer
   accepted-moves x = by_call (on-or-not s.state.present.mixer bytes id ms adsr)
     where
       by_call : OnOrNot s.state.present.mixer (F.faded_under true s.state.present.mixer bytes id ms adsr) (F.faded_on s.state.present.mixer bytes id ms adsr)
           → 1 ≤ (F.faded_on s.state.present.mixer bytes id ms adsr).mixer.crossfade_step_q8
-      by_call (turned n e o) = never (sym (ap turned_down a) ∙ ap (λ (c : Changed). turned_down (told_outcome c.outcome)) e)
+      by_call (turned n e o) = never (sym (ap turned_down a) ∙ ap (λ (c : Changed). turned_down (told c.outcome)) e)
       by_call (began d e) = rw e (begun-step s.state.present.mixer bytes id ms adsr (rw e at d))
 
   accepted-on : (h : History) → (faded_now true (faded_on s.state bytes id ms adsr).outcome h).marks.sounds_on ≡ true
   accepted-on h = go (faded_on s.state bytes id ms adsr).outcome a
     where
-      go : (o : Outcome) → told_outcome o ≡ passed → (faded_now true o h).marks.sounds_on ≡ true
-      go O.Done e = refl
-      go (O.Refused x) e = never (sym (ap turned_down e))
+      go : (o : Result (Unit {0}) AudioError) → told o ≡ passed → (faded_now true o h).marks.sounds_on ≡ true
+      go (Ok tt) e = refl
+      go (Err x) e = never (sym (ap turned_down e))
 
 -- "the sound goes on": after any steps from an opening a fade of the second call is accepted, and comes, among others that let it go on, to its last frame, f
 pub fade-sounds-on : (n : ℕ) (config : AudioConfig) (policy : VoiceStealingPolicy) (ss ts : List (Step Lent Call)) (bytes : List ℕ) (id ms : ℕ) (adsr : AdsrSpec) (f : Lent)
     → let s = after_all box ss (opened n config policy).sounder in
     let begun = (faded_on s.state bytes id ms adsr).sounder in
-    told_outcome (faded_on s.state bytes id ms adsr).outcome ≡ passed → unbroken box ts begun ≡ true
+    told (faded_on s.state bytes id ms adsr).outcome ≡ passed → unbroken box ts begun ≡ true
     → frames_in ts + 1 ≡ fade_count (fade_step ms s.state.present.mixer.config.sample_rate_hz) → SoundsOn f (after_all box ts begun)
 unfolding settled
 fade-sounds-on n config policy ss ts bytes id ms adsr f a u e =

@@ -9,7 +9,7 @@ use Rattle.config.specs.declared.AudioConfig.{AudioConfig}
 use Rattle.entering.specs.Entering.{entered_in}
 use Rattle.entering.proofs.Fates.{enters-in}
 use Rattle.entering.proofs.Laws.{valid-line-left, none-waiting}
-use Rattle.error.specs.Told.{Told, value, refused}
+use Rattle.error.specs.Told.{told, Told, value, refused}
 use Rattle.frame.specs.Lasting.{Step, frame, call, after_all}
 use Rattle.mixer.specs.declared.VoiceStealingPolicy.{VoiceStealingPolicy}
 use Rattle.marks.specs.declared.Present.{Present}
@@ -25,7 +25,7 @@ use Rattle.sounder.specs.declared.Sounder.{Sounder}
 use Rattle.waiting.specs.History as W
 use Rattle.waiting.specs.History.{Event, value_or, line_after}
 use Rattle.waiting.specs.Lines as L
-use Rattle.waiting.specs.Lines.{in_line, line_of, left, withdrawn, changed_line}
+use Rattle.waiting.specs.Lines.{in_line, left, withdrawn, changed_line}
 use Rattle.waiting.specs.declared.Line.{Line}
 use Rattle.waiting.specs.declared.Waiting.{Waiting}
 use Rattle.waiting.proofs.Accounts.{none-lost}

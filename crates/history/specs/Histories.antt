@@ -1,16 +1,13 @@
 -- "Each voice keeps its rank among the audible ones by when it was started": what the starts so far say, by a counter beside the calls. The box
 -- keeps none, so nothing can run over. Assumes nothing.
-use Rattle.std.specs.Prelude.{ℕ, suc, ◌≡◌, Bool, true, false, cond, List, [], ◌∷◌}
+use Rattle.std.specs.Prelude.{ℕ, suc, ◌≡◌, Bool, true, false, cond, List, [], ◌∷◌, Err, Ok, Result}
 use Rattle.entering.specs.Entering.{voice_free, entered_in}
-use Rattle.error.specs.Told.{Told, value, refused}
+use Rattle.error.specs.Told.{told, Told, value, refused}
 use Rattle.frame.specs.Fades.{marks_advanced}
 use Rattle.frame.specs.Lasting.{Step, frame, call}
 use Rattle.marks.specs.Marks.{no_marks, marked_at, beside, settled}
 use Rattle.marks.specs.declared.Marks.{Marks}
 use Rattle.marks.specs.declared.Present.{Present}
-use Rattle.mixer.specs.declared.Outcome.{Outcome}
-use Rattle.mixer.specs.declared.Outcome.TheVariants as O
-use Rattle.play.specs.Plays.{told_play}
 use Rattle.requests.specs.Presents.{played_present}
 use Rattle.steps.specs.Steps as S
 use Rattle.steps.specs.Steps.{play, tone, poly_blep, bank, pan, master_gain, stop, fade, look}
@@ -19,6 +16,7 @@ use Rattle.sounder.specs.Steps.{Lent, framed, Call, by01, fade_on, leave, withdr
 use Rattle.sounder.specs.declared.Sounder.{Sounder}
 use Rattle.waiting.specs.Lines.{in_line}
 use Rattle.waiting.specs.declared.Waiting.{Waiting}
+use Rattle.error.specs.declared.AudioError.{AudioError}
 
 -- beside each voice, in place of a rank, the time of its last start; and the time of the next one
 pub record History : Type 0 where
@@ -40,13 +38,13 @@ handed_now (refused n) h = h
 abbrev pub begun_now : Bool → History → History
 begun_now on h = record { marks = begun_by on h.marks; clock = h.clock }
 
-abbrev pub faded_now : Bool → Outcome → History → History
-faded_now on O.Done h = begun_now on (started_now 1 h)
-faded_now on (O.Refused e) h = h
+abbrev pub faded_now : Bool → Result (Unit {0}) AudioError → History → History
+faded_now on (Ok tt) h = begun_now on (started_now 1 h)
+faded_now on (Err e) h = h
 
 -- "Tone and PolyBLEP starts count as starts"; a fade starts voice 1. A stop gives the master the present rule.
 abbrev pub called_now01 : S.Call → Sounder → History → History
-called_now01 (play bytes r) s h = handed_now (told_play (played s.state bytes r).outcome) h
+called_now01 (play bytes r) s h = handed_now (told (played s.state bytes r).outcome) h
 called_now01 (tone hz ms waveform) s h = started_now 0 h
 called_now01 (poly_blep hz ms waveform) s h = started_now 0 h
 called_now01 (bank rate count len) s h = h
@@ -68,7 +66,7 @@ unfoldable pub entered_now : List ℕ → Present → List Waiting → History �
 entered_now bytes p [] h = h
 entered_now bytes p (w ∷ ws) h =
     let q = played_present p bytes w.request in
-    cond (voice_free p) (entered_now bytes q.present ws (handed_now (told_play q.outcome) h)) h
+    cond (voice_free p) (entered_now bytes q.present ws (handed_now (told q.outcome) h)) h
 
 -- "at a fade's end voice 0, if then audible, takes voice 1's place in age"
 abbrev pub advanced_now : Present → History → History

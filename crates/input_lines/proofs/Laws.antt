@@ -2,27 +2,21 @@
 use mathlib.Core.Path.{◌≡◌, refl}
 use mathlib.Core.Bool.{Bool, true, false, cond, ◌||◌}
 use mathlib.Core.List.{List, [], ◌∷◌}
-use Prim.Native.Nat.{ℕ, zero, suc, ◌+◌, ◌≤◌, ◌<◌}
+use Prim.Native.Nat.{ℕ, suc, ◌+◌, ◌≤◌, ◌<◌}
 use native.Mathlib.Numerals.{add-one}
 use native.Mathlib.Omega.{arith}
 use borrow.Author.Tests.{eq-eqb, ne_eqb, le-leb, lt-leb}
 use lib.Dec.{eqb, leb}
-use lib.ListN.{length, set, get_or, drop, length-drop}
+use lib.ListN.{length, set, get_or, drop, length-drop, drop_of_length-le}
 use lib.Seq.{drop-cons}
 use Rattle.input_lines.specs.Lines.{Line, lined, Fills}
 use Rattle.input_lines.specs.declared.Filled.{Filled}
-
-pub nothing_left : (l : List ℕ) (i : ℕ) → length l ≤ i → drop i l ≡ []
-nothing_left [] zero h = refl
-nothing_left [] (suc i) h = refl
-nothing_left (x ∷ l) zero h = absurd (omega arith)
-nothing_left (x ∷ l) (suc i) h = nothing_left l i (omega arith)
 
 module _ (cells : List ℕ) (n : ℕ) (chunk : List ℕ) (i : ℕ) where
   -- what is known of the line at the chunk's end, at a newline, with no room left, and at any other byte
   pub at-end : length chunk ≤ i → lined cells n i (drop i chunk) ≡ record { cells = cells; count = n; next = i; ended = false }
   unfolding lined
-  at-end h = rw (nothing_left chunk i h)
+  at-end h = rw (drop_of_length-le chunk h)
 
   pub at-newline : i < length chunk → get_or chunk i 0 ≡ 10
       → lined cells n i (drop i chunk) ≡ record { cells = cells; count = n; next = i + 1; ended = true }

@@ -5,7 +5,8 @@ ghost use Rattle.std.specs.Prelude.{drop};
 ghost use Rattle.input_lines.specs.Lines.{lined, Fills};
 
 // How much of a line is kept, the place in the chunk after what was read, and whether the line ended.
-#[derive(Clone, Copy)]
+// Not an Option of the length: where the line goes on, its length is wanted too.
+#[derive(Clone, Copy, Debug, PartialEq, Eq)]
 pub struct Filled {
     pub line: usize,
     pub next: usize,
@@ -17,21 +18,12 @@ pub fn fill(line: &mut [u8], at: usize, chunk: &[u8], from: usize) -> Filled
     ensures { Fills (lined line.old at from (drop from chunk.now)) line.new result }
 {
     let mut n = at;
-    let mut i = from;
-    while i < chunk.len() {
+    for i in from..chunk.len() {
         let b = chunk[i];
-        i += 1;
-        if b == 10 {
+        if b == b'\n' || n >= line.len() {
             return Filled {
                 line: n,
-                next: i,
-                ended: true,
-            };
-        }
-        if n >= line.len() {
-            return Filled {
-                line: n,
-                next: i,
+                next: i + 1,
                 ended: true,
             };
         }
@@ -40,7 +32,7 @@ pub fn fill(line: &mut [u8], at: usize, chunk: &[u8], from: usize) -> Filled
     }
     Filled {
         line: n,
-        next: i,
+        next: from.max(chunk.len()),
         ended: false,
     }
 }

@@ -1,6 +1,6 @@
 -- Runs of stores, loops over the first of a list, and what holds of each element. Past the end nothing is stored and nothing is
 -- read but the default, so few laws ask for a bound. Assumes nothing.
-use mathlib.Core.Path.{◌≡◌, refl, ap, ◌∙◌}
+use mathlib.Core.Path.{◌≡◌, refl, ap, sym, ◌∙◌}
 use mathlib.Core.List.{List, [], ◌∷◌, ◌++◌, map}
 use Prim.Native.Nat.{ℕ, zero, suc, ◌+◌, ◌<◌, ◌≤◌}
 use native.Mathlib.Nat.{add-zero, add-suc, suc-add}
@@ -8,7 +8,10 @@ use native.Mathlib.Numerals.{add-one}
 use native.Mathlib.Omega.{arith}
 use lib.ListN.{length, get_or, take, drop, set, replicate}
 use lib.Seq.{sets, set_comm, drop-cons, get_or-take, length-take-le}
-use Rattle.laws.specs.Lists.{All, map_first}
+use mathlib.Core.Bool.{Bool, true, false, cond}
+use Rattle.std.specs.List.{count_by}
+use Rattle.std.proofs.lemmas.List.Sums.{sum_by-cons}
+use Rattle.laws.specs.Lists.{All, map_first, only}
 
 module _ {A : Type 0} where
   -- one run after another
@@ -107,3 +110,13 @@ module _ {A : Type 0} (P : A → Type 0) where
   pub all_replicate : (n : ℕ) (x : A) → P x → All P (replicate n x)
   all_replicate zero x h = tt
   all_replicate (suc n) x h = (h, all_replicate n x h)
+
+-- those that pass the test, counted by std's word
+pub length-only : {A : Type 0} (test : A → Bool) (l : List A) → length (only test l) ≡ count_by test l
+unfolding only
+length-only test [] = refl
+length-only test (x ∷ l) = by-head (length-only test l) (test x) ∙ sym (sum_by-cons (λ y. cond (test y) 1 0) x l)
+  where
+    by-head : length (only test l) ≡ count_by test l → (t : Bool) → length (cond t (x ∷ only test l) (only test l)) ≡ cond t 1 0 + count_by test l
+    by-head e true = omega (arith, e)
+    by-head e false = omega (arith, e)

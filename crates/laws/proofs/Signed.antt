@@ -1,18 +1,18 @@
 -- Bounds on signed numbers, by their size in ℕ, which omega reads. nat_abs z is |z|; SFits w z bounds mag z, which is |z| or one less.
 -- Assumes nothing.
-use mathlib.Core.Path.{◌≡◌, refl, sym, ap, ◌∙◌, subst}
+use mathlib.Core.Path.{◌≡◌, refl, sym, ap, ◌∙◌}
 use Prim.Native.Nat.{ℕ, zero, suc, ◌+◌, ◌-◌, ◌*◌, ◌/◌, ◌^◌, ◌≤◌, ◌<◌}
-use native.Mathlib.Nat.{zero-div, zero-mul, mod-eq_of_lt, mul-le-mul, div-le_of_le-mul, div-lt_iff_lt-mul, mul-lt-mul_of_pos_left, le-add_right, mul_comm, le_refl, le_trans, lt_of_le_of_lt, lt_of_lt_of_le, le_of_eq, mul-le-mul_left, mul-le-mul_right}
+use native.Mathlib.Nat.{zero-div, zero-mul, mod-eq_of_lt, mul-le-mul, div-le_of_le-mul, div-lt_iff_lt-mul, mul-lt-mul_of_pos_left, le-add_right, mul_comm, le_refl, le_trans, lt_of_le_of_lt, le_of_eq, mul-le-mul_left, mul-le-mul_right}
 use native.Mathlib.Omega.{arith}
 use lib.IntN.{ℤ, pos, negsuc, neg_ℤ, nat_abs, sub_ℕ, neg_ℤ-+ℤ, neg_ℤ-neg_ℤ, +ℤ_comm, +ℤ_idl, ◌+ℤ◌, ◌-ℤ◌, ◌*ℤ◌}
-use lib.Signed.{mag, quot_z, shr_z, nat_abs-le, lt_z, lt_z_yes, lt_z_no, ◌<ℤ◌, ◌≤ℤ◌}
+use lib.Signed.{mag, quot_z, shr_z, nat_abs-le, ◌<ℤ◌, ◌≤ℤ◌}
 use lib.Dec.{T, ltb, leb, ltb→lt, leb→le}
-use mathlib.Core.Bool.{Bool, true, false, not, cond}
-use borrow.Author.Tests.{le-ltb, lt-ltb, ltb-true, ltb-false}
+use mathlib.Core.Bool.{Bool, true, false, cond}
+use borrow.Author.Tests.{le-ltb, ltb-true, ltb-false}
 use lib.Pow.{pow_pos}
 use mir.Syntax.{Width, w8}
 use mir.Val.{Fits, SFits, bits, hbits, to_z, of_z}
-use mir.ValLaws.{to_z_pos, to_z-of_z}
+use mir.ValLaws.{to_z_pos}
 use borrow.Author.Rules.{rules}
 use Rattle.laws.specs.Whole.{modulo}
 

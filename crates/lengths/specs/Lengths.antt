@@ -1,14 +1,9 @@
 -- Document 02, T-10: "A day of bells drifts because each length drops part of a sample." Assumes nothing.
 use Rattle.std.specs.Prelude.{ℕ, ◌+◌, ◌*◌, ◌/◌, ◌%◌, ◌≤◌, ◌<◌, min, ◌≡◌, cond, List, [], ◌∷◌, ltb, take}
 use Rattle.laws.specs.Lists.{All}
-use Rattle.error.specs.Numbers.{number_of}
 use Rattle.error.specs.Told.{Told, value, refused}
 use Rattle.lengths.specs.declared.Length.{Length}
-use Rattle.lengths.specs.declared.LengthRead.{LengthRead}
-use Rattle.lengths.specs.declared.LengthRead.TheVariants as L
 use Rattle.lengths.specs.declared.Total.{Total}
-use Rattle.lengths.specs.declared.TotalRead.{TotalRead}
-use Rattle.lengths.specs.declared.TotalRead.TheVariants as T
 
 -- "both the whole samples and the remainder in thousandths": of so many thousandths of a sample
 unfoldable pub parted : ℕ → Length
@@ -25,10 +20,6 @@ carrying ms rate last = at_rate rate (parted (ms * rate + last))
 -- "so that ms × rate = 1000 × samples + remainder, remainder below 1,000"
 unfoldable pub length_of : ℕ → ℕ → Told Length
 length_of ms rate = at_rate rate (parted (ms * rate))
-
-abbrev pub told_length : LengthRead → Told Length
-told_length (L.Length l) = value l
-told_length (L.Refused e) = refused (number_of e)
 
 -- "any list of lengths at one rate": each gets the remainder that the one before gave
 unfoldable pub in_turn : ℕ → ℕ → List ℕ → List Length
@@ -55,10 +46,6 @@ unfoldable pub total_of : List ℕ → ℕ → Total
 total_of lengths rate =
     let all = total_ms lengths * rate in
     record { samples = min (all / 1000) 18446744073709551615; remainder = all % 1000 }
-
-abbrev pub told_total : TotalRead → Told Total
-told_total (T.Total t) = value t
-told_total (T.Refused e) = refused (number_of e)
 
 -- not above the exact value, and less than a sample, 1,000 thousandths, below it
 pub record Near (given exact : ℕ) : Type 0 where

@@ -1,4 +1,5 @@
 -- Each definition keeps a state valid, and what a turn of each loop over the voices does. Assumes nothing.
+use Rattle.std.specs.Prelude.{None, Some}
 use Prim.Native.Nat.{ℕ, suc, ◌+◌, ◌≤◌, ◌<◌}
 use native.Mathlib.Omega.{arith}
 use mathlib.Core.Path.{◌≡◌, refl}
@@ -21,8 +22,6 @@ use Rattle.voice.proofs.Laws as L
 use Rattle.mixer.specs.declared.Mixer.{Mixer}
 use Rattle.mixer.specs.declared.VoiceStealingPolicy.{VoiceStealingPolicy}
 use Rattle.mixer.specs.declared.VoiceStealingPolicy.TheVariants as P
-use Rattle.mixer.specs.declared.VoiceRead.TheVariants as R
-use Rattle.mixer.specs.declared.PanRead.TheVariants as Q
 use Rattle.mixer.specs.Mixers.{Valid, with_voices, holding_bank, fresh, closed, with_master_gain, voice_read, pan_read, panned, stopped}
 
 -- a voice of a valid state is valid
@@ -46,17 +45,17 @@ valid-stored {m} i v h k g =
     }
 
 -- the voice that is read at a place, under any default
-pub read-there : (m : Mixer) (i : ℕ) (d : Voice) → Valid m → i < m.n → voice_read m i ≡ R.Voice (get_or m.voices i d)
+pub read-there : (m : Mixer) (i : ℕ) (d : Voice) → Valid m → i < m.n → voice_read m i ≡ Some (get_or m.voices i d)
 unfolding voice_read
 read-there m i d h k =
     let b : i < length m.voices = omega (arith, h.few, h.full) in
     rw (lt-ltb i m.n k, get_d_any m.voices i (S.silent_voice 0) d b)
 
-pub read_none : (m : Mixer) (i : ℕ) → m.n ≤ i → voice_read m i ≡ R.None
+pub read_none : (m : Mixer) (i : ℕ) → m.n ≤ i → voice_read m i ≡ None
 unfolding voice_read
 read_none m i h = rw (le-ltb i m.n h)
 
-pub pan-there : (m : Mixer) (i : ℕ) (d : Voice) → Valid m → i < m.n → pan_read m i ≡ Q.Pan (get_or m.voices i d).pan_q8
+pub pan-there : (m : Mixer) (i : ℕ) (d : Voice) → Valid m → i < m.n → pan_read m i ≡ Some (get_or m.voices i d).pan_q8
 unfolding pan_read
 pan-there m i d h k = rw (read-there m i d h k)
 
@@ -172,3 +171,5 @@ valid-holding b h k =
       mapper = h.mapper;
       fade = h.fade;
     }
+
+pub ruleset valid_states = (valid-closed, valid-fresh, valid-gain, valid-stopped, valid-holding, valid-panned)

@@ -1,13 +1,10 @@
 -- The state of a box, what keeps it valid, and the calls that start nothing. Assumes nothing.
-use Rattle.std.specs.Prelude.{ℕ, ◌≤◌, ◌≡◌, Bool, true, false, cond, List, ltb, length, get_or, take, drop, set, replicate}
+use Rattle.std.specs.Prelude.{ℕ, ◌≤◌, ◌≡◌, Bool, true, false, cond, List, ltb, length, get_or, take, drop, set, replicate, Err, None, Ok, Option, Some}
 use Rattle.bank.specs.Banks.{ValidBank, bank_of}
 use Rattle.bank.specs.declared.SoundBank.{SoundBank}
-use Rattle.bank.specs.declared.BankSet.{BankSet}
-use Rattle.bank.specs.declared.BankSet.TheVariants as B
 use Rattle.config.specs.Config as C
 use Rattle.config.specs.declared.AudioConfig.{AudioConfig}
-use Rattle.error.specs.Numbers.{number_of}
-use Rattle.error.specs.Told.{Told, value, refused, passed, refusal}
+use Rattle.error.specs.Told.{Told, value, refused, refusal}
 use Rattle.laws.specs.Lists.{All, map_first, only}
 use Rattle.output.specs.Duty.{fresh_mapper, ValidMapper}
 use Rattle.output.specs.declared.DutyMode.TheVariants as D
@@ -16,18 +13,12 @@ use Rattle.voice.specs.Voices as S
 use Rattle.mixer.specs.declared.Mixer.{Mixer}
 use Rattle.mixer.specs.declared.VoiceStealingPolicy.{VoiceStealingPolicy}
 use Rattle.mixer.specs.declared.VoiceStealingPolicy.TheVariants as P
-use Rattle.mixer.specs.declared.Outcome.{Outcome}
-use Rattle.mixer.specs.declared.Outcome.TheVariants as O
 use Rattle.mixer.specs.declared.Changed.{Changed}
-use Rattle.mixer.specs.declared.VoiceRead.{VoiceRead}
-use Rattle.mixer.specs.declared.VoiceRead.TheVariants as R
-use Rattle.mixer.specs.declared.PanRead.{PanRead}
-use Rattle.mixer.specs.declared.PanRead.TheVariants as Q
 
 -- "Setting a bank makes its rate the engine's"
-abbrev pub AtRate : ℕ → BankSet → Type 0
-AtRate rate B.None = Unit {0}
-AtRate rate (B.Bank b) = b.sample_rate_hz ≡ rate
+abbrev pub AtRate : ℕ → Option SoundBank → Type 0
+AtRate rate None = Unit {0}
+AtRate rate (Some b) = b.sample_rate_hz ≡ rate
 
 -- what every state that a call takes or gives has; the places from n on, which no call reads, stay silent
 pub record Valid (m : Mixer) : Type 0 where
@@ -74,7 +65,7 @@ fresh n config policy =
     record {
       n = n;
       voices = replicate 16 (S.silent_voice config.sample_rate_hz);
-      bank = B.None;
+      bank = None;
       config = config;
       mapper = fresh_mapper config.duty_mode;
       crossfade_t_q8 = 0;
@@ -89,7 +80,7 @@ closed =
     fresh 0 (record { sample_rate_hz = 0; pwm_period = 2; duty_mode = D.Linear; master_gain_q8 = 0 }) P.LowestPriorityOldest
 
 abbrev pub not_opened : ℕ → Changed
-not_opened n = record { outcome = O.Refused (refusal n); mixer = closed }
+not_opened n = record { outcome = Err (refusal n); mixer = closed }
 
 -- "Opening an engine": 1, 2, 3 in this order
 unfoldable pub opened : ℕ → AudioConfig → VoiceStealingPolicy → Changed
@@ -97,7 +88,7 @@ opened n config policy =
     cond (ltb 16 n) (not_opened 1)
     (cond (ltb 65537 config.sample_rate_hz) (not_opened 2)
     (cond (ltb config.pwm_period 2) (not_opened 3)
-    (record { outcome = O.Done; mixer = fresh n config policy })))
+    (record { outcome = (Ok tt); mixer = fresh n config policy })))
 
 unfoldable pub with_master_gain : Mixer → ℕ → Mixer
 with_master_gain m gain =
@@ -122,19 +113,19 @@ unfoldable pub playing : Mixer → Bool
 playing m = ltb 0 (audible_count m)
 
 -- the voice at a place; there are n
-unfoldable pub voice_read : Mixer → ℕ → VoiceRead
-voice_read m i = cond (ltb i m.n) (R.Voice (get_or m.voices i (S.silent_voice 0))) R.None
+unfoldable pub voice_read : Mixer → ℕ → Option Voice
+voice_read m i = cond (ltb i m.n) (Some (get_or m.voices i (S.silent_voice 0))) None
 
-abbrev pub pan_given : VoiceRead → PanRead
-pan_given (R.Voice v) = Q.Pan v.pan_q8
-pan_given R.None = Q.None
+abbrev pub pan_given : Option Voice → Option ℕ
+pan_given (Some v) = Some v.pan_q8
+pan_given None = None
 
-unfoldable pub pan_read : Mixer → ℕ → PanRead
+unfoldable pub pan_read : Mixer → ℕ → Option ℕ
 pan_read m i = pan_given (voice_read m i)
 
-abbrev pub panned_at : Mixer → ℕ → ℕ → VoiceRead → Mixer
-panned_at m i pan (R.Voice v) = with_voices m (set m.voices i (S.with_pan v pan))
-panned_at m i pan R.None = m
+abbrev pub panned_at : Mixer → ℕ → ℕ → Option Voice → Mixer
+panned_at m i pan (Some v) = with_voices m (set m.voices i (S.with_pan v pan))
+panned_at m i pan None = m
 
 -- "Setting the pan of a voice that isn't there does nothing and has no refusal."
 unfoldable pub panned : Mixer → ℕ → ℕ → Mixer
@@ -158,11 +149,7 @@ stopped m =
 
 -- "A refusal changes nothing"
 abbrev pub unchanged : Mixer → ℕ → Changed
-unchanged m n = record { outcome = O.Refused (refusal n); mixer = m }
-
-abbrev pub told_outcome : Outcome → Told (Unit {0})
-told_outcome O.Done = passed
-told_outcome (O.Refused e) = refused (number_of e)
+unchanged m n = record { outcome = Err (refusal n); mixer = m }
 
 -- "Setting a bank makes its rate the engine's and all voices silent at that rate, and touches neither fade fields nor duty shapers."
 abbrev pub holding_bank : Mixer → SoundBank → Mixer
@@ -170,7 +157,7 @@ holding_bank m b =
     record {
       n = m.n;
       voices = replicate 16 (S.silent_voice b.sample_rate_hz);
-      bank = B.Bank b;
+      bank = Some b;
       config =
           record {
             sample_rate_hz = b.sample_rate_hz;
@@ -187,7 +174,7 @@ holding_bank m b =
 
 abbrev pub banked_by : Mixer → Told SoundBank → Changed
 banked_by m (refused n) = unchanged m n
-banked_by m (value b) = record { outcome = O.Done; mixer = holding_bank m b }
+banked_by m (value b) = record { outcome = (Ok tt); mixer = holding_bank m b }
 
 unfoldable pub banked : Mixer → ℕ → ℕ → ℕ → Changed
 banked m rate count len = banked_by m (bank_of rate count len)

@@ -2,12 +2,13 @@
 // such a state in a private field.
 #![tactic(auto)]
 
-ghost use Rattle.std.specs.Prelude.{◌≡◌};
+ghost use Rattle.std.specs.Prelude.{◌≡◌, count_by};
 ghost use Rattle.laws.specs.Made.{Made};
 ghost use Rattle.error.specs.Numbers.{number_of};
-ghost use Rattle.mixer.specs.Mixers.{Valid, ValidChanged, default_policy, fresh, not_opened, opened, with_master_gain, stopped, audible_count, playing, voice_read, pan_read, panned, banked};
+ghost use Rattle.voice.specs.Voices as S;
+ghost use Rattle.mixer.specs.Mixers.{Valid, ValidChanged, default_policy, fresh, not_opened, opened, with_master_gain, stopped, audible_count, playing, voice_read, pan_read, panned, holding_bank, banked};
 
-use bank::{BankRead, BankSet, SoundBank};
+use bank::SoundBank;
 use config::AudioConfig;
 use error::AudioError;
 use output::{DutyMode, PwmMapper};
@@ -20,11 +21,10 @@ pub enum VoiceStealingPolicy {
     FreeChannelOnly,
 }
 
-impl VoiceStealingPolicy {
-    // The source's `Default`.
-    pub fn default() -> VoiceStealingPolicy
-        ensures { result ≡ default_policy }
-    {
+impl Default for VoiceStealingPolicy {
+    ghost is_default = { λ policy. policy ≡ default_policy };
+
+    fn default() -> VoiceStealingPolicy {
         VoiceStealingPolicy::LowestPriorityOldest
     }
 }
@@ -33,7 +33,7 @@ impl VoiceStealingPolicy {
 pub struct Mixer {
     pub n: usize,
     pub voices: [Voice; 16],
-    pub bank: BankSet,
+    pub bank: Option<SoundBank>,
     pub config: AudioConfig,
     pub mapper: PwmMapper,
     pub crossfade_t_q8: u8,
@@ -42,46 +42,24 @@ pub struct Mixer {
     pub stealing_policy: VoiceStealingPolicy,
 }
 
-#[derive(Clone, Copy)]
-pub enum Outcome {
-    Done,
-    Refused(AudioError),
-}
-
 // What a call that may be refused gives back.
 #[derive(Clone, Copy)]
 pub struct Changed {
-    pub outcome: Outcome,
+    pub outcome: Result<(), AudioError>,
     pub mixer: Mixer,
 }
 
-// The source's `Option<&Voice>`.
-#[derive(Clone, Copy)]
-pub enum VoiceRead {
-    Voice(Voice),
-    None,
-}
-
-// The source's `Option<u8>` of a pan.
-#[derive(Clone, Copy)]
-pub enum PanRead {
-    Pan(u8),
-    None,
-}
-
 // n voices, silent at the configuration's rate.
+#[tactic(auto, unfolding(crate::specs::Mixers::fresh))]
 fn fresh(n: usize, config: AudioConfig, policy: VoiceStealingPolicy) -> Mixer
     ensures { result ≡ fresh n config policy }
 {
-    let silent = Voice::silent(config.sample_rate_hz);
-    let mode = config.duty_mode;
-    let mapper = PwmMapper::new(mode);
     Mixer {
         n,
-        voices: [silent; 16],
-        bank: BankSet::None,
+        voices: [Voice::silent(config.sample_rate_hz); 16],
+        bank: None,
         config,
-        mapper,
+        mapper: PwmMapper::new(config.duty_mode),
         crossfade_t_q8: 0,
         crossfade_step_q8: 0,
         crossfade_active: false,
@@ -90,6 +68,7 @@ fn fresh(n: usize, config: AudioConfig, policy: VoiceStealingPolicy) -> Mixer
 }
 
 // What stands where opening is refused.
+#[tactic(auto, using(laws::proofs::Made::made, crate::proofs::Laws::valid_states))]
 fn closed(error: AudioError) -> Changed
     ensures { Made ValidChanged (not_opened (number_of error)) result }
 {
@@ -99,14 +78,20 @@ fn closed(error: AudioError) -> Changed
         duty_mode: DutyMode::Linear,
         master_gain_q8: 0,
     };
-    let mixer = fresh(0, none, VoiceStealingPolicy::LowestPriorityOldest);
     Changed {
-        outcome: Outcome::Refused(error),
-        mixer,
+        outcome: Err(error),
+        mixer: fresh(0, none, VoiceStealingPolicy::default()),
     }
 }
 
+fn audible_in(voices: &[Voice]) -> usize
+    ensures { result ≡ count_by S.audible voices.now }
+{
+    voices.iter().filter(|v| v.is_audible()).count()
+}
+
 impl Mixer {
+    #[tactic(auto, using(laws::proofs::Made::made, crate::proofs::Laws::valid_states), unfolding(crate::specs::Mixers::opened))]
     pub fn open(n: usize, config: AudioConfig, policy: VoiceStealingPolicy) -> Changed
         ensures { Made ValidChanged (opened n config policy) result }
     {
@@ -119,37 +104,31 @@ impl Mixer {
         if config.pwm_period < 2 {
             return closed(AudioError::BadPeriod);
         }
-        let mixer = fresh(n, config, policy);
         Changed {
-            outcome: Outcome::Done,
-            mixer,
+            outcome: Ok(()),
+            mixer: fresh(n, config, policy),
         }
     }
 
+    #[tactic(auto, using(laws::proofs::Made::made, crate::proofs::Laws::valid_states), unfolding(crate::specs::Mixers::with_master_gain))]
     pub fn set_master_gain_q8(self, gain: u8) -> Mixer
         requires { Valid self }
         ensures { Made Valid (with_master_gain self gain) result }
     {
-        let old = self.config;
-        let config = old.master_gain_q8(gain);
-        Mixer { config, ..self }
+        Mixer {
+            config: self.config.master_gain_q8(gain),
+            ..self
+        }
     }
 
     pub fn active_voice_count(self) -> usize
         requires { Valid self }
         ensures { result ≡ audible_count self }
     {
-        let n = self.n;
-        let mut count: usize = 0;
-        for i in 0..n {
-            let v = self.voices[i];
-            if v.is_audible() {
-                count += 1;
-            }
-        }
-        count
+        audible_in(&self.voices[..self.n])
     }
 
+    #[tactic(auto, unfolding(crate::specs::Mixers::playing))]
     pub fn is_playing(self) -> bool
         requires { Valid self }
         ensures { result ≡ playing self }
@@ -157,90 +136,82 @@ impl Mixer {
         self.active_voice_count() > 0
     }
 
-    pub fn voice(self, idx: usize) -> VoiceRead
+    #[tactic(auto, unfolding(crate::specs::Mixers::voice_read))]
+    pub fn voice(self, idx: usize) -> Option<Voice>
         requires { Valid self }
         ensures { result ≡ voice_read self idx }
     {
-        if idx < self.n {
-            VoiceRead::Voice(self.voices[idx])
-        } else {
-            VoiceRead::None
-        }
+        self.voices[..self.n].get(idx).copied()
     }
 
-    pub fn voice_pan(self, idx: usize) -> PanRead
+    #[tactic(auto, unfolding(crate::specs::Mixers::pan_read))]
+    pub fn voice_pan(self, idx: usize) -> Option<u8>
         requires { Valid self }
         ensures { result ≡ pan_read self idx }
     {
-        if idx < self.n {
-            let v = self.voices[idx];
-            PanRead::Pan(v.pan_q8)
-        } else {
-            PanRead::None
-        }
+        self.voice(idx).map(|v| v.pan_q8)
     }
 
+    #[tactic(auto, using(laws::proofs::Made::made, crate::proofs::Laws::valid_states), unfolding(crate::specs::Mixers::panned))]
     pub fn set_voice_pan(self, idx: usize, pan_q8: u8) -> Mixer
         requires { Valid self }
         ensures { Made Valid (panned self idx pan_q8) result }
     {
         let mut out = self;
         if idx < self.n {
-            let v = out.voices[idx];
-            out.voices[idx] = v.set_pan_q8(pan_q8);
+            out.voices[idx] = out.voices[idx].set_pan_q8(pan_q8);
         }
         out
     }
 
+    #[tactic(auto, using(laws::proofs::Made::made, crate::proofs::Laws::valid_states), unfolding(crate::specs::Mixers::stopped))]
     pub fn stop_all(self) -> Mixer
         requires { Valid self }
         ensures { Made Valid (stopped self) result }
     {
-        let old = self.mapper;
-        let mapper = old.reset();
-        let n = self.n;
         let mut out = Mixer {
-            mapper,
+            mapper: self.mapper.reset(),
             crossfade_step_q8: 0,
             crossfade_active: false,
             ..self
         };
-        for i in 0..n {
-            let v = out.voices[i];
-            out.voices[i] = v.stop_immediate();
+        for i in 0..self.n {
+            out.voices[i] = out.voices[i].stop_immediate();
         }
         out
     }
 
     // The bank's bytes are len in number; they are lent to each call that reads them.
+    #[tactic(auto, using(laws::proofs::Made::made, crate::proofs::Laws::valid_states), unfolding(crate::specs::Mixers::banked))]
     pub fn set_bank(self, sample_rate_hz: u32, effect_count: u16, len: usize) -> Changed
         requires { Valid self }
         ensures { Made ValidChanged (banked self sample_rate_hz effect_count len) result }
     {
         match SoundBank::new(sample_rate_hz, effect_count, len) {
-            BankRead::Refused(e) => Changed {
-                outcome: Outcome::Refused(e),
+            Err(e) => Changed {
+                outcome: Err(e),
                 mixer: self,
             },
-            BankRead::Bank(b) => {
-                let old = self.config;
-                let rate = b.sample_rate_hz();
-                let config = AudioConfig {
-                    sample_rate_hz: rate,
-                    ..old
-                };
-                let silent = Voice::silent(rate);
-                let mixer = Mixer {
-                    voices: [silent; 16],
-                    bank: BankSet::Bank(b),
-                    config,
-                    ..self
-                };
-                Changed {
-                    outcome: Outcome::Done,
-                    mixer,
-                }
-            }
+            Ok(bank) => Changed {
+                outcome: Ok(()),
+                mixer: self.holding(bank),
+            },
+        }
+    }
+
+    // The bank's rate is the engine's, and every voice is silent at it.
+    fn holding(self, bank: SoundBank) -> Mixer
+        ensures { result ≡ holding_bank self bank }
+    {
+        let sample_rate_hz = bank.sample_rate_hz();
+        Mixer {
+            voices: [Voice::silent(sample_rate_hz); 16],
+            bank: Some(bank),
+            config: AudioConfig {
+                sample_rate_hz,
+                ..self.config
+            },
+            ..self
         }
     }
 }

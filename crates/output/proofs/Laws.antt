@@ -1,27 +1,28 @@
 -- Laws of the definitions, by which callers and proofs bound what they give. Assumes nothing.
-use mathlib.Core.Path.{◌≡◌}
-use mathlib.Core.Bool.{Bool, true, false, cond}
+use mathlib.Core.Path.{◌≡◌, refl, ap}
 use Prim.Native.Nat.{ℕ, zero, suc, ◌-◌, ◌*◌, ◌/◌, ◌^◌, ◌≤◌, ◌<◌}
 use native.Mathlib.Nat.{le_trans, lt_of_lt_of_le, mul-le-mul_right}
 use native.Mathlib.Omega.{arith}
 use borrow.Author.Tests.{le-ltb}
 use lib.Dec.{T, leb, ltb, leb→le, ltb→lt, leb-zero}
 use lib.IntN.{ℤ, pos, negsuc, nat_abs, neg_ℤ, ◌+ℤ◌, ◌-ℤ◌, ◌*ℤ◌}
-use lib.Signed.{mag, le_z, non_neg, quot_z, nat_abs-le}
+use lib.Signed.{◌≤ℤ◌, mag, quot_z}
 use mir.Syntax.{Width, w8, w16, w32}
-use mir.Val.{Fits, SFits, hbits}
+use mir.Val.{Fits, SFits, hbits, to_z}
 use mir.Facts.{sfits_widen}
-use Rattle.laws.specs.Whole.{held_to}
+use Rattle.std.specs.Int.{int_wrap, int_max, int_min}
+use Rattle.std.proofs.lemmas.Int.{ints, SFits-int_wrap}
+use Rattle.laws.specs.Whole.{held_to, wrap32}
 use Rattle.laws.proofs.Held.{Between, held-between}
-use Rattle.laws.proofs.Signed.{mag≤abs, mag-add, sub-size, pos-sub, abs≤, abs-fits, abs-quot, add≤, sub≤, mul≤}
-use Rattle.output.specs.Shapers.{quantized, shaped2nd_order, ValidShaper, ValidShaped, fresh2nd_order}
+use Rattle.laws.proofs.Signed.{mag≤abs, mag-add, sub-size, abs≤, abs-fits, abs-quot, add≤, sub≤, mul≤}
+use Rattle.output.specs.Shapers.{quantized, shaped2nd_order, fresh2nd_order, ValidShaper}
 use Rattle.error.specs.Told.{value}
-use Rattle.output.specs.Duty.{duty, period_read, mapped_by, mapped, ValidMapper, ValidMapped}
-use Rattle.output.specs.Levels.{raised}
+use Rattle.output.specs.Duty.{duty, period_read, mapped_by, mapped}
 use Rattle.output.specs.declared.DutyMode.{DutyMode}
 use Rattle.output.specs.declared.DutyMode.TheVariants as M
 use Rattle.output.specs.declared.PwmMapper.{PwmMapper}
 use Rattle.output.specs.declared.SigmaDelta2ndOrder.{SigmaDelta2ndOrder}
+use Rattle.output.specs.Duty.{ValidMapper}
 
 -- a sample times m
 mag-neg : (n m : ℕ) → n ≤ suc m → mag (neg_ℤ (pos n)) ≤ m
@@ -46,37 +47,6 @@ scaled_fits {w} {s} m f v p t =
     let l : mag (s *ℤ pos m) < 128 * m = scaled s m (ltb→lt 0 m p) (omega arith) in
     record { wide = sfits_widen v f; size = l; prod = record { sfits = lt_of_lt_of_le l (leb→le _ _ t) } }
 
--- a sample and 128
-pub record Raised (s : ℤ) : Type 0 where
-  pub wide : SFits w16 s
-  pub sum : SFits w16 (s +ℤ pos 128)
-  pub up : T (non_neg (s +ℤ pos 128))
-  pub byte : Fits w8 (raised s)
-
-pub raised-fits : (s : ℤ) → SFits w8 s → Raised s
-raised-fits (pos n) f =
-    record { wide = sfits_widen tt f; sum = record { sfits = omega arith }; up = tt; byte = record { fits = omega arith } }
-raised-fits (negsuc k) f =
-    let e : pos 128 -ℤ pos (suc k) ≡ pos (128 - suc k) = pos-sub 128 (suc k) (omega arith) in
-    record {
-      wide = sfits_widen tt f;
-      sum = rw e (record { sfits = omega arith });
-      up = rw e tt;
-      byte = rw e (record { fits = omega arith });
-    }
-
--- a level, and two of them
-pub level-size : (e : ℤ) → mag (quantized e) ≤ 32767
-unfolding quantized
-level-size e = by-test (le_z (pos 0) e)
-  where
-    by-test : (t : Bool) → mag (cond t (pos 32767) (negsuc 32767)) ≤ 32767
-    by-test true = omega arith
-    by-test false = omega arith
-
-pub levels-size : (a b : ℤ) → mag (quantized a +ℤ quantized b) ≤ 65535
-levels-size a b = mag-add (quantized a) (quantized b) 32768 32767 (nat_abs-le (quantized a) (omega (arith, level-size a))) (level-size b)
-
 -- what an error within −32,767..32,767 gains and loses leaves it there
 pub level-rest : (e : ℤ) → mag e ≤ 65534 → nat_abs (e -ℤ quantized e) ≤ 32767
 unfolding quantized
@@ -90,7 +60,7 @@ pub valid-fresh : ValidShaper fresh2nd_order
 valid-fresh = record { first = omega arith; second = omega arith }
 
 -- each sample keeps the errors in range, so from a new shaper on they stay there for ever
-pub valid-shaped : (d : SigmaDelta2ndOrder) (s : ℤ) → ValidShaper d → SFits w8 s → ValidShaped (shaped2nd_order d s)
+pub valid-shaped : (d : SigmaDelta2ndOrder) (s : ℤ) → ValidShaper d → SFits w8 s → ValidShaper (shaped2nd_order d s).shaper
 unfolding shaped2nd_order
 valid-shaped d s h f =
     let p : Scaled w32 s 256 = scaled_fits 256 f tt tt tt in
@@ -104,6 +74,7 @@ offset s p = quot_z (s *ℤ (pos (p / 2) -ℤ pos 1)) (pos 127)
 
 pub record Dutied (s : ℤ) (p : ℕ) : Type 0 where
   pub wide : SFits w32 s
+  pub whole : SFits w32 (pos p)
   pub half : SFits w32 (pos (p / 2))
   pub less : SFits w32 (pos (p / 2) -ℤ pos 1)
   pub prod : SFits w32 (s *ℤ (pos (p / 2) -ℤ pos 1))
@@ -118,6 +89,7 @@ duty-fits s p fs fp =
     let q : nat_abs (offset s p) ≤ 33027 = rw abs-quot (omega arith) in
     record {
       wide = sfits_widen tt fs;
+      whole = record { sfits = omega arith };
       half = record { sfits = omega arith };
       less = abs-fits 32769 l tt;
       prod = abs-fits 4194432 m tt;
@@ -130,7 +102,7 @@ pub duty-between : (s : ℤ) (p : ℕ) → 2 ≤ p → Between 1 (p - 1) (held_t
 duty-between s p h = held-between 1 (p - 1) _ (omega arith)
 
 -- a period of at least 2 is accepted
-pub period-accepted : (n : ℕ) → 2 ≤ n → period_read n ≡ value (record { counts = n })
+pub period-accepted : (n : ℕ) → 2 ≤ n → period_read n ≡ value n
 period-accepted n h = rw (le-ltb n 2 h)
 
 pub duty-least : (s : ℤ) (p : ℕ) → 2 ≤ p → 1 ≤ duty s p
@@ -145,11 +117,24 @@ duty-most s p h = (duty-between s p h).most
 pub duty-of-2 : (s : ℤ) → duty s 2 ≡ 1
 duty-of-2 s = omega (arith, duty-least s 2 (omega arith), duty-most s 2 (omega arith))
 
-pub valid-mapped : (m : PwmMapper) (s : ℤ) (p : ℕ) → ValidMapper m → SFits w8 s → ValidMapped (mapped m s p)
+pub valid-mapped : (m : PwmMapper) (s : ℤ) (p : ℕ) → ValidMapper m → SFits w8 s → ValidMapper (mapped m s p).mapper
 unfolding mapped
 valid-mapped m s p h f = by_mode m.mode
   where
-    by_mode : (mode : DutyMode) → ValidMapped (mapped_by mode m s p)
+    by_mode : (mode : DutyMode) → ValidMapper (mapped_by mode m s p).mapper
     by_mode M.Linear = h
     by_mode M.SigmaDelta = h
     by_mode M.SigmaDelta2ndOrder = valid-shaped m.sigma_delta_2nd s h f
+
+-- what the standard library's wrapping and holding give is document 01's
+pub int_wrap-wrap32 : (z : ℤ) → int_wrap w32 z ≡ wrap32 z
+unfolding int_wrap wrap32
+int_wrap-wrap32 (pos n) = refl
+int_wrap-wrap32 (negsuc k) = ap (to_z w32) (omega arith)
+
+pub wrap32-fits : (z : ℤ) → SFits w32 (wrap32 z)
+wrap32-fits z = rw (← int_wrap-wrap32 z) (SFits-int_wrap w32 z)
+
+pub clamp-held_to : (lo hi z : ℤ) → lo ≤ℤ hi → int_max lo (int_min z hi) ≡ held_to lo hi z
+unfolding held_to
+clamp-held_to lo hi z h = grind (arith, ints)

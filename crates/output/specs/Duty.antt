@@ -1,14 +1,11 @@
 -- Period, duty and mapper, from document 01, "Mixing, fade, duty" and its table of refusals. Assumes nothing.
 use Rattle.std.specs.Prelude.{ℕ, ◌-◌, ◌/◌, ◌≤◌, cond, ltb, ℤ, pos, nat_abs, ◌+ℤ◌, ◌-ℤ◌, ◌*ℤ◌}
-use Rattle.error.specs.Numbers.{number_of}
 use Rattle.error.specs.Told.{Told, value, refused}
 use Rattle.laws.specs.Whole.{trunc_div, held_to}
 use Rattle.output.specs.Shapers.{fresh, shaped, fresh2nd_order, shaped2nd_order, ValidShaper}
 use Rattle.output.specs.declared.DutyMode.{DutyMode}
 use Rattle.output.specs.declared.DutyMode.TheVariants as M
 use Rattle.output.specs.declared.Period.{Period}
-use Rattle.output.specs.declared.PeriodRead.{PeriodRead}
-use Rattle.output.specs.declared.PeriodRead.TheVariants as R
 use Rattle.output.specs.declared.PwmMapper.{PwmMapper}
 use Rattle.output.specs.declared.Mapped.{Mapped}
 
@@ -18,14 +15,11 @@ default_mode = M.Linear
 
 -- "PWM period below 2 | 3 BadPeriod"
 abbrev pub period_read : ℕ → Told Period
-period_read n = cond (ltb n 2) (refused 3) (value (record { counts = n }))
+period_read n = cond (ltb n 2) (refused 3) (value n)
 
-abbrev pub told_period : PeriodRead → Told Period
-told_period (R.Accepted p) = value p
-told_period (R.Refused e) = refused (number_of e)
-
-pub record ValidPeriod (p : Period) : Type 0 where
-  pub least : 2 ≤ p.counts
+-- what every period is
+pub record ValidPeriod (counts : ℕ) : Type 0 where
+  pub least : 2 ≤ counts
 
 -- "Duty: m = floor(period ÷ 2), m + truncated(s × (m − 1) ÷ 127), held to 1..period − 1." What is held so is no less than 1, and so
 -- its own size.

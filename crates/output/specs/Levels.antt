@@ -2,19 +2,12 @@
 use Rattle.std.specs.Prelude.{ℕ, cond, ℤ, pos, nat_abs, ◌+ℤ◌}
 use Rattle.std.specs.Int.Signed.{lt_z}
 use Rattle.laws.specs.Whole.{neg}
-use Rattle.error.specs.Numbers.{number_of}
 use Rattle.error.specs.Told.{Told, value, refused}
 use Rattle.fixed.specs.Fixed.{limited}
-use Rattle.output.specs.declared.Limited.{Limited}
-use Rattle.output.specs.declared.Limited.TheVariants as L
 
 -- "Bus limiter alone | sum outside −2,048..2,032 | 11 BadSum"
 abbrev pub limited_bus : ℤ → Told ℤ
 limited_bus sum = cond (lt_z sum (neg 2048)) (refused 11) (cond (lt_z (pos 2032) sum) (refused 11) (value (limited sum)))
-
-abbrev pub told_limit : Limited → Told ℤ
-told_limit (L.Sample s) = value s
-told_limit (L.Refused e) = refused (number_of e)
 
 -- s + 128 of a sample s, which is 0..255: output.rs's scale without a sign
 abbrev pub raised : ℤ → ℕ

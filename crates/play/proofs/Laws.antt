@@ -1,4 +1,5 @@
 -- Each definition keeps a state valid. Assumes nothing.
+use Rattle.std.specs.Prelude.{Ok}
 use Prim.Native.Nat.{ℕ, zero, suc, ◌≤◌, ◌<◌}
 use native.Mathlib.Omega.{arith}
 use mathlib.Core.Path.{◌≡◌, refl}
@@ -19,9 +20,10 @@ use Rattle.voice.specs.declared.Voice.{Voice}
 use Rattle.voice.proofs.Laws as L
 use Rattle.mixer.specs.declared.Changed.{Changed}
 use Rattle.mixer.specs.declared.Mixer.{Mixer}
-use Rattle.mixer.specs.declared.Outcome.TheVariants as O
 use Rattle.mixer.specs.Mixers.{Valid, with_voices, unchanged}
+use Rattle.error.proofs.Told.{refusal-number}
 use Rattle.mixer.proofs.Laws.{valid-voice, valid-stored}
+use Rattle.allocate.proofs.Choice.{allocated-below}
 use Rattle.play.specs.Plays.{first_sounding}
 use Rattle.play.specs.Fades.{first_released, begun, faded_by, faded_to, faded_under, faded_on_by, faded_on}
 
@@ -88,7 +90,7 @@ module _ (parted : Bool) (m : Mixer) (bytes : List ℕ) (id ms : ℕ) (adsr : Ad
 -- ---- the second fade call: it is turned down, by the old call's number, and has changed nothing, or it does what the old call does
 pub data OnOrNot (m : Mixer) (old on : Changed) : Type 0 where
   turned : (n : ℕ) → on ≡ unchanged m n → old.outcome ≡ on.outcome → OnOrNot m old on
-  began : on.outcome ≡ O.Done → on ≡ old → OnOrNot m old on
+  began : on.outcome ≡ (Ok tt) → on ≡ old → OnOrNot m old on
 
 pub on-or-not : (m : Mixer) (bytes : List ℕ) (id ms : ℕ) (adsr : AdsrSpec) → OnOrNot m (faded_under true m bytes id ms adsr) (faded_on m bytes id ms adsr)
 unfolding faded_under faded_on faded_by request_start_under
@@ -109,3 +111,5 @@ on-or-not m bytes id ms adsr = by_count (ltb m.n 2)
         (faded_on_by m ms (and_then (found_given m.bank bytes id) (λ entry. entry_start_under true m.bank bytes entry adsr 128))))
     by_count true = turned 5 refl refl
     by_count false = by-entry (found_given m.bank bytes id)
+
+pub ruleset placing = (valid-stored, allocated-below, refusal-number)

@@ -8,8 +8,8 @@ use lib.Dec.{ltb}
 use Rattle.bank.specs.Search.{found_given}
 use Rattle.bank.specs.declared.EffectEntry.{EffectEntry}
 use Rattle.envelope.specs.declared.AdsrSpec.{AdsrSpec}
-use Rattle.error.specs.Told.{Told, value, refused, value_in, passed}
-use Rattle.mixer.specs.Mixers.{unchanged, told_outcome}
+use Rattle.error.specs.Told.{told, Told, value, refused, value_in, passed}
+use Rattle.mixer.specs.Mixers.{unchanged}
 use Rattle.mixer.specs.declared.Changed.{Changed}
 use Rattle.mixer.specs.declared.Mixer.{Mixer}
 use Rattle.start.proofs.Laws.{entry_value}
@@ -18,7 +18,7 @@ use Rattle.play.specs.Fades.{faded_by, faded_to, faded_under, first_released}
 
 -- what a fade did is the same but for a refusal's number
 pub record SameCall (c d : Changed) : Type 0 where
-  pub done : value_in (told_outcome c.outcome) ≡ value_in (told_outcome d.outcome)
+  pub done : value_in (told c.outcome) ≡ value_in (told d.outcome)
   pub mixer : c.mixer ≡ d.mixer
 
 by-start : (m : Mixer) (ms : ℕ) (s t : Told Voice) → value_in s ≡ value_in t → SameCall (faded_by m ms s) (faded_by m ms t)
@@ -43,8 +43,8 @@ same-fade a b m bytes id ms adsr = by_count (ltb m.n 2)
     by_count false = by-entry (found_given m.bank bytes id)
 
 -- a fade that one rule accepts, the other does
-pub fade-accepted : (a b : Bool) (m : Mixer) (bytes : List ℕ) (id ms : ℕ) (adsr : AdsrSpec) → told_outcome (faded_under a m bytes id ms adsr).outcome ≡ passed
-    → told_outcome (faded_under b m bytes id ms adsr).outcome ≡ passed
+pub fade-accepted : (a b : Bool) (m : Mixer) (bytes : List ℕ) (id ms : ℕ) (adsr : AdsrSpec) → told (faded_under a m bytes id ms adsr).outcome ≡ passed
+    → told (faded_under b m bytes id ms adsr).outcome ≡ passed
 fade-accepted a b m bytes id ms adsr e = is-passed _ (rw e at (sym (same-fade a b m bytes id ms adsr).done))
   where
     is-passed : (t : Told (Unit {0})) → value_in t ≡ some tt → t ≡ passed

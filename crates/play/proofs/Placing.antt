@@ -4,7 +4,7 @@ use mathlib.Core.Path.{◌≡◌, ap, sym, ◌∙◌}
 use mathlib.Core.Bool.{Bool}
 use mathlib.Core.List.{List}
 use lib.ListN.{take, set}
-use Rattle.error.specs.Told.{Told, value, refused}
+use Rattle.error.specs.Told.{told, Told, value, refused}
 use Rattle.error.proofs.Told.{value-is, not-refused, refusal-number}
 use Rattle.error.specs.Numbers.{number_of}
 use Rattle.error.specs.declared.AudioError.{AudioError}
@@ -19,7 +19,7 @@ use Rattle.allocate.proofs.Choice.{given_below}
 use Rattle.allocate.proofs.Keyed.{keyed}
 use Rattle.marks.specs.Marks.{ValidIn}
 use Rattle.marks.specs.declared.Present.{Present}
-use Rattle.play.specs.Plays.{played_under, placed_by, told_play}
+use Rattle.play.specs.Plays.{played_under, placed_by}
 use Rattle.play.specs.declared.Played.{Played}
 
 -- a place and a voice are given where both are
@@ -31,12 +31,12 @@ both (value j) (value w) i v e = ap (λ (p : ℕ × Voice). value p.0) (value-is
 -- a request that got voice i, and one that was turned down
 pub record Stored (m : Mixer) (p : Played) (i : ℕ) (v : Voice) : Type 0 where
   pub mixer : p.mixer ≡ with_voices m (set m.voices i v)
-  pub told : told_play p.outcome ≡ value i
+  pub told : told p.outcome ≡ value i
   pub place : i < m.n
 
 pub record Kept (m : Mixer) (p : Played) (x : AudioError) : Type 0 where
   pub mixer : p.mixer ≡ m
-  pub told : told_play p.outcome ≡ refused (number_of x)
+  pub told : told p.outcome ≡ refused (number_of x)
 
 module _ (present : Bool) (p : Present) (bytes : List ℕ) (r : Request) where
   -- the request's place and voice, by the keys of the state's voices

@@ -1,5 +1,5 @@
 -- Beginning a fade. Assumes nothing.
-use Rattle.std.specs.Prelude.{ℕ, Bool, true, false, cond, List, ltb, get_or, set}
+use Rattle.std.specs.Prelude.{ℕ, Bool, true, false, cond, List, ltb, get_or, set, Ok}
 use Rattle.bank.specs.Search.{found_given}
 use Rattle.bank.specs.declared.EffectEntry.{EffectEntry}
 use Rattle.config.specs.Config.{fade_step}
@@ -10,7 +10,6 @@ use Rattle.voice.specs.Voices.{silent_voice, released_voice}
 use Rattle.voice.specs.declared.Voice.{Voice}
 use Rattle.mixer.specs.Mixers.{with_voices, unchanged}
 use Rattle.mixer.specs.declared.Mixer.{Mixer}
-use Rattle.mixer.specs.declared.Outcome.TheVariants as O
 use Rattle.mixer.specs.declared.Changed.{Changed}
 
 -- voice 0 released
@@ -35,7 +34,7 @@ begun m v step =
 -- the step is from the engine's rate
 unfoldable pub faded_by : Mixer → ℕ → Told Voice → Changed
 faded_by m ms (refused n) = unchanged m n
-faded_by m ms (value v) = record { outcome = O.Done; mixer = begun m v (fade_step ms m.config.sample_rate_hz) }
+faded_by m ms (value v) = record { outcome = (Ok tt); mixer = begun m v (fade_step ms m.config.sample_rate_hz) }
 
 -- "it releases voice 0 before its entry start, and 4 or 10 given there leaves that release standing"; document 02: "The release of voice 0 by a
 -- fade now goes with these", 15 and 16

@@ -1,6 +1,5 @@
 -- Play requests, tone and PolyBLEP starts. Assumes nothing.
-use Rattle.std.specs.Prelude.{ℕ, Bool, cond, List, eqb, set}
-use Rattle.error.specs.Numbers.{number_of}
+use Rattle.std.specs.Prelude.{ℕ, Bool, cond, List, eqb, set, Err, Ok}
 use Rattle.error.specs.Told.{Told, value, refused, and_then, refusal}
 use Rattle.polyblep.specs.declared.PolyBlepWaveform.{PolyBlepWaveform}
 use Rattle.start.specs.Starts.{request_start, request_start_under, tone_voice, poly_blep_voice}
@@ -13,37 +12,25 @@ use Rattle.allocate.specs.Allocation.{allocated, allocated_in}
 use Rattle.marks.specs.declared.Present.{Present}
 use Rattle.mixer.specs.declared.Mixer.{Mixer}
 use Rattle.play.specs.declared.Played.{Played}
-use Rattle.play.specs.declared.PlayOutcome.{PlayOutcome}
-use Rattle.play.specs.declared.PlayOutcome.TheVariants as P
-use Rattle.play.specs.declared.places.Placed.{Placed}
-use Rattle.play.specs.declared.places.Placed.TheVariants as L
 
 abbrev pub ValidPlayed : Played → Type 0
 ValidPlayed p = Valid p.mixer
 
 -- "A refusal changes nothing"
 abbrev pub not_played : Mixer → ℕ → Played
-not_played m n = record { outcome = P.Refused (refusal n); mixer = m }
-
-abbrev pub told_play : PlayOutcome → Told ℕ
-told_play (P.Voice i) = value i
-told_play (P.Refused e) = refused (number_of e)
+not_played m n = record { outcome = Err (refusal n); mixer = m }
 
 -- The place and the voice that a request gets. A play request passes its places in the table's order: allocation (5), then all that
 -- `request_start_under` may refuse.
 abbrev pub placed_by : Told ℕ → Told Voice → Told (ℕ × Voice)
 placed_by place start = and_then place (λ i. and_then start (λ v. value (i, v)))
 
-abbrev pub told_placed : Placed → Told (ℕ × Voice)
-told_placed (L.Voice i v) = value (i, v)
-told_placed (L.Refused e) = refused (number_of e)
-
 abbrev pub ValidPlaced : ℕ × Voice → Type 0
 ValidPlaced p = W.Valid p.1
 
 abbrev pub played_at : Mixer → Told (ℕ × Voice) → Played
 played_at m (refused n) = not_played m n
-played_at m (value p) = record { outcome = P.Voice p.0; mixer = with_voices m (set m.voices p.0 p.1) }
+played_at m (value p) = record { outcome = Ok p.0; mixer = with_voices m (set m.voices p.0 p.1) }
 
 -- by document 01
 unfoldable pub played : Mixer → List ℕ → Request → Played

@@ -1,17 +1,15 @@
 // Beginning a fade.
 ghost use Rattle.std.specs.Prelude.{◌≡◌, ◌≤◌};
 ghost use Rattle.laws.specs.Made.{Made};
-ghost use Rattle.error.specs.Told.{ValidTold};
-ghost use Rattle.start.specs.Starts.{told_start};
+ghost use Rattle.error.specs.Told.{told, ValidTold};
 ghost use Rattle.voice.specs.Voices as S;
 ghost use Rattle.mixer.specs.Mixers.{Valid, ValidChanged};
 ghost use Rattle.play.specs.Fades.{first_released, begun, faded_by, faded_under, faded_on};
 
-use bank::EntryRead;
 use envelope::AdsrSpec;
 use error::AudioError;
-use mixer::{Changed, Mixer, Outcome};
-use start::{EntryStart, Request};
+use mixer::{Changed, Mixer};
+use start::Request;
 use voice::Voice;
 
 fn first_released(m: Mixer) -> Mixer
@@ -42,20 +40,20 @@ fn begun(m: Mixer, v: Voice, step: u8) -> Mixer
 }
 
 // With voice 0 released: the voice that started, or why none did.
-fn faded_by(m: Mixer, duration_ms: u16, started: EntryStart) -> Changed
+fn faded_by(m: Mixer, duration_ms: u16, started: Result<Voice, AudioError>) -> Changed
     requires valid { Valid m }
-    requires le_n { (2 ≤ m.n) × ValidTold S.Valid (told_start started) }
-    ensures { Made ValidChanged (faded_by m duration_ms (told_start started)) result }
+    requires le_n { (2 ≤ m.n) × ValidTold S.Valid (told started) }
+    ensures { Made ValidChanged (faded_by m duration_ms (told started)) result }
 {
     let config = m.config;
     let step = config::crossfade_step_q8(duration_ms, config.sample_rate_hz);
     match started {
-        EntryStart::Refused(e) => Changed {
-            outcome: Outcome::Refused(e),
+        Err(e) => Changed {
+            outcome: Err(e),
             mixer: m,
         },
-        EntryStart::Voice(v) => Changed {
-            outcome: Outcome::Done,
+        Ok(v) => Changed {
+            outcome: Ok(()),
             mixer: begun(m, v, step),
         },
     }
@@ -74,17 +72,17 @@ pub fn crossfade_to(
 {
     if m.n < 2 {
         return Changed {
-            outcome: Outcome::Refused(AudioError::VoiceBusy),
+            outcome: Err(AudioError::VoiceBusy),
             mixer: m,
         };
     }
     let bank = m.bank;
     match bank::find_by_id(bank, bytes, effect_id) {
-        EntryRead::Refused(e) => Changed {
-            outcome: Outcome::Refused(e),
+        Err(e) => Changed {
+            outcome: Err(e),
             mixer: m,
         },
-        EntryRead::Entry(entry) => {
+        Ok(entry) => {
             let released = first_released(m);
             let started = start::start_entry(bank, bytes, entry, adsr, 128, parted);
             faded_by(released, duration_ms, started)
@@ -105,7 +103,7 @@ pub fn crossfade_sounding_on(
 {
     if m.n < 2 {
         return Changed {
-            outcome: Outcome::Refused(AudioError::VoiceBusy),
+            outcome: Err(AudioError::VoiceBusy),
             mixer: m,
         };
     }
@@ -118,10 +116,10 @@ pub fn crossfade_sounding_on(
     let started = start::start_request(bank, bytes, request, true);
     let fading = first_released(m);
     match started {
-        EntryStart::Refused(e) => Changed {
-            outcome: Outcome::Refused(e),
+        Err(e) => Changed {
+            outcome: Err(e),
             mixer: m,
         },
-        EntryStart::Voice(_) => faded_by(fading, duration_ms, started),
+        Ok(_) => faded_by(fading, duration_ms, started),
     }
 }

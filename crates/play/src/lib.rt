@@ -5,29 +5,22 @@ ghost use Rattle.std.specs.Prelude.{◌≡◌};
 ghost use Rattle.laws.specs.Made.{Made};
 ghost use Rattle.voice.specs.Voices as S;
 ghost use Rattle.mixer.specs.Mixers.{Valid};
-ghost use Rattle.play.specs.Plays.{ValidPlayed, played, first_sounding, toned, poly_bleped};
+ghost use Rattle.error.specs.Numbers.{number_of};
+ghost use Rattle.play.specs.Plays.{ValidPlayed, not_played, played, first_sounding, toned, poly_bleped};
 
-use allocate::Allocated;
 use error::AudioError;
 use mixer::Mixer;
 use polyblep::PolyBlepWaveform;
-use start::{EntryStart, Request};
+use start::Request;
 use tone::Waveform;
 use voice::Voice;
 
 pub mod fades;
 pub mod places;
 
-// The voice that a request got, or why it got none.
-#[derive(Clone, Copy)]
-pub enum PlayOutcome {
-    Voice(usize),
-    Refused(AudioError),
-}
-
 #[derive(Clone, Copy)]
 pub struct Played {
-    pub outcome: PlayOutcome,
+    pub outcome: Result<usize, AudioError>,
     pub mixer: Mixer,
 }
 
@@ -44,30 +37,33 @@ fn first_sounding(m: Mixer, v: Voice) -> Mixer
     out
 }
 
+fn refused(m: Mixer, error: AudioError) -> Played
+    ensures { result ≡ not_played m (number_of error) }
+{
+    Played {
+        outcome: Err(error),
+        mixer: m,
+    }
+}
+
+#[tactic(auto, using(laws::proofs::Made::made, crate::proofs::Laws::placing), unfolding(crate::specs::Plays::played))]
 pub fn play_request(m: Mixer, bytes: &[u8], request: Request) -> Played
     requires { Valid m }
     ensures { Made ValidPlayed (played m bytes.now request) result }
 {
-    let bank = m.bank;
-    match allocate::allocate_voice(m, request.priority) {
-        Allocated::None => Played {
-            outcome: PlayOutcome::Refused(AudioError::VoiceBusy),
-            mixer: m,
-        },
-        Allocated::Voice(i) => match start::start_request(bank, bytes, request, false) {
-            EntryStart::Refused(e) => Played {
-                outcome: PlayOutcome::Refused(e),
-                mixer: m,
-            },
-            EntryStart::Voice(v) => {
-                let mut mixer = m;
-                mixer.voices[i] = v;
-                Played {
-                    outcome: PlayOutcome::Voice(i),
-                    mixer,
-                }
+    let Some(i) = allocate::allocate_voice(m, request.priority) else {
+        return refused(m, AudioError::VoiceBusy);
+    };
+    match start::start_request(m.bank, bytes, request, false) {
+        Err(e) => refused(m, e),
+        Ok(v) => {
+            let mut mixer = m;
+            mixer.voices[i] = v;
+            Played {
+                outcome: Ok(i),
+                mixer,
             }
-        },
+        }
     }
 }
 
@@ -76,11 +72,9 @@ pub fn play_tone(m: Mixer, freq_hz: u32, duration_ms: u16, waveform: Waveform) -
     requires { Valid m }
     ensures { Made Valid (toned m freq_hz duration_ms waveform) result }
 {
-    let config = m.config;
-    let rate = config.sample_rate_hz;
-    match start::tone_voice(freq_hz, duration_ms, waveform, rate) {
-        EntryStart::Voice(v) => first_sounding(m, v),
-        EntryStart::Refused(_) => m,
+    match start::tone_voice(freq_hz, duration_ms, waveform, m.config.sample_rate_hz) {
+        Ok(v) => first_sounding(m, v),
+        Err(_) => m,
     }
 }
 
@@ -88,10 +82,8 @@ pub fn play_polyblep(m: Mixer, freq_hz: u32, duration_ms: u16, waveform: PolyBle
     requires { Valid m }
     ensures { Made Valid (poly_bleped m freq_hz duration_ms waveform) result }
 {
-    let config = m.config;
-    let rate = config.sample_rate_hz;
-    match start::polyblep_voice(freq_hz, duration_ms, waveform, rate) {
-        EntryStart::Voice(v) => first_sounding(m, v),
-        EntryStart::Refused(_) => m,
+    match start::polyblep_voice(freq_hz, duration_ms, waveform, m.config.sample_rate_hz) {
+        Ok(v) => first_sounding(m, v),
+        Err(_) => m,
     }
 }

@@ -97,3 +97,6 @@ valid-stepped v h = by-case v.active (eqb v.samples_left 0)
     by-case true true = record { osc = h.osc }
     by-case true false = record { osc = valid-advanced v.osc h.osc }
     by-case false b = h
+
+-- the above, for attributes
+pub ruleset keeps_valid = (valid-new, valid-frequency, valid-rate, valid-waveform, valid-start, valid-advanced, valid-silent, valid-started, valid-stopped, valid-stepped)

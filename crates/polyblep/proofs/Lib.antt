@@ -7,6 +7,7 @@
 --     Ranges   where a float lies, by its digits and in the words of the comparisons; −0
 --     Keep     the phase stays from 0 up and below 1
 --     Step     a step lies in 0..0.499; 0 for 0 Hz, 0.499 above 16,777,216 Hz
+--     Literals what literals unfold to, under names that attributes can write
 --     Cut      a float cut to an i8: its whole part from its bits, and where it is held or 0
 pub mod Laws
 pub mod Runs
@@ -14,6 +15,7 @@ pub mod Fields
 pub mod Turn
 pub mod Examples
 pub mod Ranges
+pub mod Literals
 mod Keep
 mod Step
 mod Cut

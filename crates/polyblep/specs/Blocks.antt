@@ -1,25 +1,24 @@
 -- Inner: requests for samples one after another, a block of them at once. Assumes nothing.
-use Rattle.std.specs.Prelude.{ℕ, List, [], ◌∷◌, ℤ, Float}
+use Rattle.std.specs.Prelude.{ℕ, List, [], ◌∷◌, ℤ, Float, Option}
 use Rattle.std.specs.Float.Ieee.{neg}
 use Rattle.laws.specs.F32.{lit, held_to_f}
 use Rattle.laws.specs.Made.{Made}
 use Rattle.laws.specs.Runs.{after, given}
 use Rattle.fixed.specs.Answers.{Filled}
-use Rattle.fixed.specs.declared.Given.{Given}
+use Rattle.fixed.specs.declared.Step.{Step}
 use Rattle.polyblep.specs.Oscillators.{ValidVoice, advance, stepped_voice, float_given, truncated, cut_given}
 use Rattle.polyblep.specs.Waves.{sample_at}
 use Rattle.polyblep.specs.declared.PolyBlepWaveform.{PolyBlepWaveform}
 use Rattle.polyblep.specs.declared.PolyBlepVoice.{PolyBlepVoice}
-use Rattle.polyblep.specs.declared.blocks.BlepFilled.{BlepFilled}
 
 -- the voice after n requests, and their answers
 abbrev pub blep_after : ℕ → PolyBlepVoice → PolyBlepVoice
 blep_after n v = after stepped_voice n v
 
-abbrev pub blep_run : ℕ → PolyBlepVoice → List Given
+abbrev pub blep_run : ℕ → PolyBlepVoice → List (Option ℤ)
 blep_run n v = given stepped_voice (λ v. cut_given (float_given v) ∷ []) n v
 
-pub record BlepBlock (v : PolyBlepVoice) (n : ℕ) (cells : List ℤ) (r : BlepFilled) (filled : List ℤ) : Type 0 where
+pub record BlepBlock (v : PolyBlepVoice) (n : ℕ) (cells : List ℤ) (r : Step PolyBlepVoice ℕ) (filled : List ℤ) : Type 0 where
   pub voice : Made ValidVoice (blep_after n v) r.voice
   pub given : Filled (blep_run n v) cells r.given filled
 

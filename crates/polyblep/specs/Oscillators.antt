@@ -1,11 +1,10 @@
 -- The oscillator and the voice around it, call by call. Assumes nothing.
-use Rattle.std.specs.Prelude.{◌≡◌, ℕ, zero, suc, max, Bool, true, false, cond, T, ℤ, pos, ◌==◌, Float}
+use Rattle.std.specs.Prelude.{◌≡◌, ℕ, zero, suc, max, Bool, true, false, cond, T, ℤ, pos, ◌==◌, Float, Option, Some, None}
 use Rattle.std.specs.Float.{binary32}
 use Rattle.std.specs.Float.Ieee.{le, of_int, to_signed}
 use Rattle.laws.specs.F32.{◌⊕◌, ◌⊖◌, ◌⊗◌, ◌⊘◌, lit, held_to_f}
 use Rattle.laws.specs.Made.{Made}
-use Rattle.fixed.specs.declared.Given.{Given}
-use Rattle.fixed.specs.declared.Given.TheVariants as G
+use Rattle.fixed.specs.declared.Step.{Step}
 use Rattle.tone.specs.Duration.{duration_of, less_one}
 use Rattle.polyblep.specs.Ranges.{is_phase, is_step}
 use Rattle.polyblep.specs.Waves.{sample_at}
@@ -13,17 +12,13 @@ use Rattle.polyblep.specs.declared.PolyBlepWaveform.{PolyBlepWaveform}
 use Rattle.polyblep.specs.declared.PolyBlepWaveform.TheVariants as W
 use Rattle.polyblep.specs.declared.PolyBlepOscillator.{PolyBlepOscillator}
 use Rattle.polyblep.specs.declared.PolyBlepVoice.{PolyBlepVoice}
-use Rattle.polyblep.specs.declared.FloatGiven.{FloatGiven}
-use Rattle.polyblep.specs.declared.FloatGiven.TheVariants as F
-use Rattle.polyblep.specs.declared.OscillatorStep.{OscillatorStep}
-use Rattle.polyblep.specs.declared.FloatStep.{FloatStep}
-use Rattle.polyblep.specs.declared.PolyBlepStep.{PolyBlepStep}
 
 -- "step = Hz ÷ max(rate, 1) held to 0..0.499, every operation rounded in the source's order"
 unfoldable pub step_of : ℕ → ℕ → Float
 step_of hz rate = held_to_f (lit 0 1) (lit 499 1000) (of_int binary32 (pos hz) ⊘ of_int binary32 (pos (max rate 1)))
 
--- what every oscillator that a call takes or gives has
+-- What every oscillator that a call takes or gives has.
+-- Tried by an `impl Model`: a Copy struct that holds one is not copied in a proof when used again, so the callers' proofs do not close.
 pub record Valid (o : PolyBlepOscillator) : Type 0 where
   pub phase : T (is_phase o.phase)
   pub step : T (is_step o.phase_inc)
@@ -75,9 +70,9 @@ later (suc n) o = advanced (later n o)
 unfoldable pub sample_of : PolyBlepOscillator → Float
 sample_of o = sample_at o.waveform o.phase o.phase_inc
 
-pub record Stepped (o : PolyBlepOscillator) (r : OscillatorStep) : Type 0 where
-  pub osc : Made Valid (advanced o) r.osc
-  pub sample : r.sample ≡ sample_of o
+pub record Stepped (o : PolyBlepOscillator) (r : Step PolyBlepOscillator Float) : Type 0 where
+  pub voice : Made Valid (advanced o) r.voice
+  pub given : r.given ≡ sample_of o
 
 -- ---- the voice
 pub record ValidVoice (v : PolyBlepVoice) : Type 0 where
@@ -109,21 +104,21 @@ stepped_voice v =
     v
 
 -- the float sample that a request gives
-unfoldable pub float_given : PolyBlepVoice → FloatGiven
-float_given v = cond v.active (cond (v.samples_left == 0) F.None (F.Sample (sample_of v.osc))) F.None
+unfoldable pub float_given : PolyBlepVoice → Option Float
+float_given v = cond v.active (cond (v.samples_left == 0) None (Some (sample_of v.osc))) None
 
 -- "Output is truncated(sample × 127), held to −128..127 by the cast; a NaN would give 0."
 unfoldable pub truncated : Float → ℤ
 truncated f = to_signed 7 (f ⊗ lit 127 1)
 
-abbrev pub cut_given : FloatGiven → Given
-cut_given (F.Sample f) = G.Sample (truncated f)
-cut_given F.None = G.None
+abbrev pub cut_given : Option Float → Option ℤ
+cut_given (Some f) = Some (truncated f)
+cut_given None = None
 
-pub record FloatStepped (v : PolyBlepVoice) (r : FloatStep) : Type 0 where
+pub record FloatStepped (v : PolyBlepVoice) (r : Step PolyBlepVoice (Option Float)) : Type 0 where
   pub voice : Made ValidVoice (stepped_voice v) r.voice
   pub given : r.given ≡ float_given v
 
-pub record VoiceStepped (v : PolyBlepVoice) (r : PolyBlepStep) : Type 0 where
+pub record VoiceStepped (v : PolyBlepVoice) (r : Step PolyBlepVoice (Option ℤ)) : Type 0 where
   pub voice : Made ValidVoice (stepped_voice v) r.voice
   pub given : r.given ≡ cut_given (float_given v)

@@ -1,15 +1,16 @@
-// The source's cast of a float to an integer, worked out from the float's bits.
+// The source's cast of a float to an integer, worked out from the float's bits: std's saturating one takes the way by an f64, in each sample.
 ghost use Rattle.std.specs.Prelude.{◌≡◌, T};
 ghost use Rattle.std.specs.Float.Ieee.{le, lt, to_signed, to_unsigned};
 ghost use Rattle.laws.specs.F32.{lit};
+ghost use Rattle.polyblep.specs.Oscillators.{truncated};
 
 // The whole part: x is `digits` * 2^(`exponent` - 150).
 fn whole_part(x: f32) -> u32
-    requires fact_1 { T (le (lit 1 1) x) }
-    requires fact_2 { T (lt x (lit 128 1)) }
+    requires least { T (le (lit 1 1) x) }
+    requires most { T (lt x (lit 128 1)) }
     ensures { result ≡ to_unsigned 7 x }
 {
-    let bits: u32 = f32::to_bits(x);
+    let bits = x.to_bits();
     let digits = bits % 0x80_0000 + 0x80_0000;
     let exponent = bits >> 23;
     digits >> (150 - exponent)
@@ -30,4 +31,12 @@ pub(crate) fn to_i8(x: f32) -> i8
     } else {
         0
     }
+}
+
+// A sample of -1..1 as eight bits.
+#[tactic(auto, unfolding(crate::specs::Oscillators::truncated, crate::proofs::Literals::of_bits, crate::proofs::Literals::round))]
+pub(crate) fn truncated(s: f32) -> i8
+    ensures { result ≡ truncated s }
+{
+    to_i8(s * 127.0)
 }

@@ -7,6 +7,7 @@ ghost use Rattle.polyblep.specs.Waves.{sine_part};
 
 const PI: f32 = 3.14159265358979323846264338327950288;
 
+#[tactic(auto, unfolding(crate::specs::Blep::poly_blep, crate::proofs::Literals::of_bits, crate::proofs::Literals::round))]
 pub fn poly_blep(t: f32, dt: f32) -> f32
     ensures { result ≡ poly_blep t dt }
 {
@@ -24,6 +25,7 @@ pub fn poly_blep(t: f32, dt: f32) -> f32
     }
 }
 
+#[tactic(auto, unfolding(crate::specs::Blep::poly_blamp, crate::proofs::Literals::of_bits, crate::proofs::Literals::round, crate::proofs::Literals::neg))]
 pub fn poly_blamp(t: f32, dt: f32) -> f32
     ensures { result ≡ poly_blamp t dt }
 {
@@ -41,6 +43,7 @@ pub fn poly_blamp(t: f32, dt: f32) -> f32
     }
 }
 
+#[tactic(auto, unfolding(crate::specs::Sine::arch, crate::proofs::Literals::of_bits, crate::proofs::Literals::round))]
 fn arch_f32(sign: f32, y: f32) -> f32
     ensures { result ≡ arch sign y }
 {

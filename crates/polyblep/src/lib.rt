@@ -3,11 +3,11 @@
 // blocks.rt a block of samples at once, restores.rt an oscillator and a voice from their fields.
 #![tactic(auto)]
 
-ghost use Rattle.std.specs.Prelude.{◌≡◌, max};
+ghost use Rattle.std.specs.Prelude.{◌≡◌};
 ghost use Rattle.laws.specs.Made.{Made};
 ghost use Rattle.polyblep.specs.Oscillators.{Valid, Stepped, ValidVoice, FloatStepped, VoiceStepped, step_of, default_waveform, default_oscillator, new_oscillator, at_frequency, at_rate, with_waveform, at_start, advance, silent_voice, started_voice, stopped_voice, carrier_of};
 
-use fixed::Given;
+use fixed::Step;
 
 mod blocks;
 mod cast;
@@ -15,11 +15,9 @@ mod corrections;
 mod restores;
 mod waves;
 
-pub use blocks::BlepFilled;
 pub use corrections::{poly_blamp, poly_blep};
-pub use restores::{Restored, RestoredVoice};
 
-#[derive(Clone, Copy)]
+#[derive(Clone, Copy, Debug, PartialEq, Eq)]
 pub enum PolyBlepWaveform {
     Sine,
     Sawtooth,
@@ -27,17 +25,16 @@ pub enum PolyBlepWaveform {
     Triangle,
 }
 
-impl PolyBlepWaveform {
-    // The source's `Default`.
-    pub fn default() -> PolyBlepWaveform
-        ensures { result ≡ default_waveform }
-    {
+impl Default for PolyBlepWaveform {
+    ghost is_default = { λ w. w ≡ default_waveform };
+
+    fn default() -> PolyBlepWaveform {
         PolyBlepWaveform::Sine
     }
 }
 
 // Private fields: an oscillator comes from the calls below, which keep its phase and step in their ranges.
-#[derive(Clone, Copy)]
+#[derive(Clone, Copy, Debug, PartialEq)]
 pub struct PolyBlepOscillator {
     phase: f32,
     phase_inc: f32,
@@ -46,31 +43,29 @@ pub struct PolyBlepOscillator {
     sample_rate_hz: u32,
 }
 
-#[derive(Clone, Copy)]
-pub struct OscillatorStep {
-    pub osc: PolyBlepOscillator,
-    pub sample: f32,
-}
-
-fn at_least_one(n: u32) -> u32
-    ensures { result ≡ max n 1 }
-{
-    if n < 1 { 1 } else { n }
-}
-
+#[tactic(auto, unfolding(crate::specs::Oscillators::step_of, crate::proofs::Literals::of_bits, crate::proofs::Literals::round))]
 fn phase_step(freq_hz: u32, sample_rate_hz: u32) -> f32
     ensures { result ≡ step_of freq_hz sample_rate_hz }
 {
     let hz = std::num::nearest_u32_to_f32(freq_hz);
-    let rate = std::num::nearest_u32_to_f32(at_least_one(sample_rate_hz));
+    let rate = std::num::nearest_u32_to_f32(sample_rate_hz.max(1));
     fixed::clamp_f32(hz / rate, 0.0, 0.499)
 }
 
+#[tactic(auto, unfolding(crate::specs::Oscillators::advance, crate::proofs::Literals::of_bits, crate::proofs::Literals::round))]
 fn advance_phase(phase: f32, phase_inc: f32) -> f32
     ensures { result ≡ advance phase phase_inc }
 {
     let p = phase + phase_inc;
     if p >= 1.0 { p - 1.0 } else { p }
+}
+
+impl Default for PolyBlepOscillator {
+    ghost is_default = { Made Valid default_oscillator };
+
+    fn default() -> PolyBlepOscillator {
+        PolyBlepOscillator::new(440, 48_000, PolyBlepWaveform::Sine)
+    }
 }
 
 impl PolyBlepOscillator {
@@ -82,17 +77,11 @@ impl PolyBlepOscillator {
             phase_inc: phase_step(freq_hz, sample_rate_hz),
             waveform,
             freq_hz,
-            sample_rate_hz: at_least_one(sample_rate_hz),
+            sample_rate_hz: sample_rate_hz.max(1),
         }
     }
 
-    // The source's `Default`.
-    pub fn default() -> PolyBlepOscillator
-        ensures { Made Valid default_oscillator result }
-    {
-        PolyBlepOscillator::new(440, 48_000, PolyBlepWaveform::Sine)
-    }
-
+    #[tactic(auto, using(crate::proofs::Laws::keeps_valid), unfolding(crate::specs::Oscillators::at_frequency))]
     pub fn set_frequency(self, freq_hz: u32) -> PolyBlepOscillator
         requires { Valid self }
         ensures { Made Valid (at_frequency self freq_hz) result }
@@ -104,17 +93,19 @@ impl PolyBlepOscillator {
         }
     }
 
+    #[tactic(auto, using(crate::proofs::Laws::keeps_valid), unfolding(crate::specs::Oscillators::at_rate))]
     pub fn set_sample_rate(self, sample_rate_hz: u32) -> PolyBlepOscillator
         requires { Valid self }
         ensures { Made Valid (at_rate self sample_rate_hz) result }
     {
         PolyBlepOscillator {
             phase_inc: phase_step(self.freq_hz, sample_rate_hz),
-            sample_rate_hz: at_least_one(sample_rate_hz),
+            sample_rate_hz: sample_rate_hz.max(1),
             ..self
         }
     }
 
+    #[tactic(auto, using(crate::proofs::Laws::keeps_valid), unfolding(crate::specs::Oscillators::with_waveform))]
     pub fn set_waveform(self, waveform: PolyBlepWaveform) -> PolyBlepOscillator
         requires { Valid self }
         ensures { Made Valid (with_waveform self waveform) result }
@@ -122,6 +113,7 @@ impl PolyBlepOscillator {
         PolyBlepOscillator { waveform, ..self }
     }
 
+    #[tactic(auto, using(crate::proofs::Laws::keeps_valid), unfolding(crate::specs::Oscillators::at_start, crate::proofs::Literals::of_bits, crate::proofs::Literals::round))]
     pub fn reset_phase(self) -> PolyBlepOscillator
         requires { Valid self }
         ensures { Made Valid (at_start self) result }
@@ -160,47 +152,37 @@ impl PolyBlepOscillator {
     }
 
     // The sample at the phase, and the phase one step on.
-    pub fn next_sample(self) -> OscillatorStep
+    #[tactic(auto, using(crate::proofs::Laws::keeps_valid), unfolding(crate::specs::Oscillators::advanced, crate::specs::Oscillators::sample_of))]
+    pub fn next_sample(self) -> Step<PolyBlepOscillator, f32>
         requires { Valid self }
         ensures { Stepped self result }
     {
-        let w = self.waveform;
-        let sample = waves::sample_at(w, self.phase, self.phase_inc);
-        let osc = PolyBlepOscillator {
+        let given = waves::sample_at(self.waveform, self.phase, self.phase_inc);
+        let voice = PolyBlepOscillator {
             phase: advance_phase(self.phase, self.phase_inc),
             ..self
         };
-        OscillatorStep { osc, sample }
+        Step { voice, given }
     }
 }
 
-#[derive(Clone, Copy)]
+#[derive(Clone, Copy, Debug, PartialEq)]
 pub struct PolyBlepVoice {
     osc: PolyBlepOscillator,
     samples_left: u32,
     active: bool,
 }
 
-// The source's `Option<f32>`.
-#[derive(Clone, Copy)]
-pub enum FloatGiven {
-    Sample(f32),
-    None,
-}
+impl Default for PolyBlepVoice {
+    ghost is_default = { Made ValidVoice silent_voice };
 
-#[derive(Clone, Copy)]
-pub struct FloatStep {
-    pub voice: PolyBlepVoice,
-    pub given: FloatGiven,
-}
-
-#[derive(Clone, Copy)]
-pub struct PolyBlepStep {
-    pub voice: PolyBlepVoice,
-    pub given: Given,
+    fn default() -> PolyBlepVoice {
+        PolyBlepVoice::new()
+    }
 }
 
 impl PolyBlepVoice {
+    #[tactic(auto, using(crate::proofs::Laws::keeps_valid), unfolding(crate::specs::Oscillators::silent_voice, crate::proofs::Literals::of_bits, crate::proofs::Literals::round))]
     pub fn new() -> PolyBlepVoice
         ensures { Made ValidVoice silent_voice result }
     {
@@ -219,6 +201,7 @@ impl PolyBlepVoice {
     }
 
     // The source starts a voice that it has; nothing of that voice is kept.
+    #[tactic(auto, using(crate::proofs::Laws::keeps_valid), unfolding(crate::specs::Oscillators::started_voice))]
     pub fn start(
         freq_hz: u32,
         duration_ms: u16,
@@ -235,6 +218,7 @@ impl PolyBlepVoice {
         }
     }
 
+    #[tactic(auto, using(crate::proofs::Laws::keeps_valid), unfolding(crate::specs::Oscillators::stopped_voice))]
     pub fn stop(self) -> PolyBlepVoice
         requires { ValidVoice self }
         ensures { Made ValidVoice (stopped_voice self) result }
@@ -264,20 +248,22 @@ impl PolyBlepVoice {
         self.osc
     }
 
+    #[tactic(auto, unfolding(crate::specs::Oscillators::carrier_of))]
     pub fn carrier_hz(self) -> u32
         ensures { result ≡ carrier_of self }
     {
         if self.active { self.osc.freq_hz } else { 0 }
     }
 
-    pub fn next_sample_f32(self) -> FloatStep
+    #[tactic(auto, using(crate::proofs::Laws::keeps_valid), unfolding(crate::specs::Oscillators::stepped_voice, crate::specs::Oscillators::float_given))]
+    pub fn next_sample_f32(self) -> Step<PolyBlepVoice, Option<f32>>
         requires { ValidVoice self }
         ensures { FloatStepped self result }
     {
         if !self.active {
-            return FloatStep {
+            return Step {
                 voice: self,
-                given: FloatGiven::None,
+                given: None,
             };
         }
         if self.samples_left == 0 {
@@ -285,41 +271,28 @@ impl PolyBlepVoice {
                 active: false,
                 ..self
             };
-            return FloatStep {
-                voice,
-                given: FloatGiven::None,
-            };
+            return Step { voice, given: None };
         }
-        let osc = self.osc;
-        let step = osc.next_sample();
-        let next = step.osc;
+        let step = self.osc.next_sample();
         let voice = PolyBlepVoice {
-            osc: next,
+            osc: step.voice,
             samples_left: tone::one_less(self.samples_left),
             ..self
         };
-        FloatStep {
+        Step {
             voice,
-            given: FloatGiven::Sample(step.sample),
+            given: Some(step.given),
         }
     }
 
-    pub fn next_sample(self) -> PolyBlepStep
+    pub fn next_sample(self) -> Step<PolyBlepVoice, Option<i8>>
         requires { ValidVoice self }
         ensures { VoiceStepped self result }
     {
         let step = self.next_sample_f32();
-        let voice = step.voice;
-        let given = step.given;
-        match given {
-            FloatGiven::Sample(f) => PolyBlepStep {
-                voice,
-                given: Given::Sample(cast::to_i8(f * 127.0)),
-            },
-            FloatGiven::None => PolyBlepStep {
-                voice,
-                given: Given::None,
-            },
+        Step {
+            voice: step.voice,
+            given: step.given.map(cast::truncated),
         }
     }
 }

@@ -7,49 +7,37 @@ ghost use Rattle.polyblep.specs.Restores.{ValidRestored, ValidRestoredVoice, res
 use super::{PolyBlepOscillator, PolyBlepVoice, PolyBlepWaveform};
 use fixed::float_of;
 
-#[derive(Clone, Copy)]
-pub enum Restored {
-    Oscillator(PolyBlepOscillator),
-    Refused,
-}
-
-#[derive(Clone, Copy)]
-pub enum RestoredVoice {
-    Voice(PolyBlepVoice),
-    Refused,
-}
-
+#[tactic(auto, unfolding(crate::specs::Ranges::is_phase, crate::proofs::Literals::of_bits, crate::proofs::Literals::round))]
 fn is_phase(x: f32) -> bool
     ensures { result ≡ is_phase x }
 {
-    if x >= 0.0 { x < 1.0 } else { false }
+    x >= 0.0 && x < 1.0
 }
 
+#[tactic(auto, unfolding(crate::specs::Ranges::is_step, crate::proofs::Literals::of_bits, crate::proofs::Literals::round))]
 fn is_step(x: f32) -> bool
     ensures { result ≡ is_step x }
 {
-    if x >= 0.0 { x <= 0.499 } else { false }
+    x >= 0.0 && x <= 0.499
 }
 
 impl PolyBlepOscillator {
+    #[tactic(auto, unfolding(crate::specs::Restores::restored))]
     pub fn restored(
         phase_bits: u32,
         step_bits: u32,
         waveform: PolyBlepWaveform,
         freq_hz: u32,
         sample_rate_hz: u32,
-    ) -> Restored
+    ) -> Option<PolyBlepOscillator>
         ensures { Made ValidRestored (restored phase_bits step_bits waveform freq_hz sample_rate_hz) result }
     {
         let phase = float_of(phase_bits);
         let phase_inc = float_of(step_bits);
-        if !is_phase(phase) {
-            return Restored::Refused;
+        if !is_phase(phase) || !is_step(phase_inc) {
+            return None;
         }
-        if !is_step(phase_inc) {
-            return Restored::Refused;
-        }
-        Restored::Oscillator(PolyBlepOscillator {
+        Some(PolyBlepOscillator {
             phase,
             phase_inc,
             waveform,
@@ -60,6 +48,7 @@ impl PolyBlepOscillator {
 }
 
 impl PolyBlepVoice {
+    #[tactic(auto, unfolding(crate::specs::Restores::restored_voice))]
     pub fn restored(
         phase_bits: u32,
         step_bits: u32,
@@ -68,23 +57,20 @@ impl PolyBlepVoice {
         sample_rate_hz: u32,
         samples_left: u32,
         active: bool,
-    ) -> RestoredVoice
+    ) -> Option<PolyBlepVoice>
         ensures { Made ValidRestoredVoice (restored_voice phase_bits step_bits waveform freq_hz sample_rate_hz samples_left active) result }
     {
-        let restored = PolyBlepOscillator::restored(
+        let osc = PolyBlepOscillator::restored(
             phase_bits,
             step_bits,
             waveform,
             freq_hz,
             sample_rate_hz,
-        );
-        match restored {
-            Restored::Oscillator(osc) => RestoredVoice::Voice(PolyBlepVoice {
-                osc,
-                samples_left,
-                active,
-            }),
-            Restored::Refused => RestoredVoice::Refused,
-        }
+        )?;
+        Some(PolyBlepVoice {
+            osc,
+            samples_left,
+            active,
+        })
     }
 }

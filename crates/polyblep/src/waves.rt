@@ -6,6 +6,7 @@ ghost use Rattle.polyblep.specs.Waves.{sawtooth, half_turn, square, triangle, sh
 use super::PolyBlepWaveform;
 use super::corrections::{poly_blamp, poly_blep, sine_part};
 
+#[tactic(auto, unfolding(crate::specs::Waves::sawtooth, crate::proofs::Literals::of_bits, crate::proofs::Literals::round))]
 pub(crate) fn sawtooth_at(t: f32, dt: f32) -> f32
     ensures { result ≡ sawtooth t dt }
 {
@@ -13,12 +14,14 @@ pub(crate) fn sawtooth_at(t: f32, dt: f32) -> f32
     s - poly_blep(t, dt)
 }
 
+#[tactic(auto, unfolding(crate::specs::Waves::half_turn, crate::proofs::Literals::of_bits, crate::proofs::Literals::round))]
 fn half_turn(t: f32) -> f32
     ensures { result ≡ half_turn t }
 {
     if t >= 0.5 { t - 0.5 } else { t + 0.5 }
 }
 
+#[tactic(auto, unfolding(crate::specs::Waves::square, crate::proofs::Literals::of_bits, crate::proofs::Literals::round, crate::proofs::Literals::neg))]
 pub(crate) fn square_at(t: f32, dt: f32) -> f32
     ensures { result ≡ square t dt }
 {
@@ -28,6 +31,7 @@ pub(crate) fn square_at(t: f32, dt: f32) -> f32
     s
 }
 
+#[tactic(auto, unfolding(crate::specs::Waves::triangle, crate::proofs::Literals::of_bits, crate::proofs::Literals::round))]
 pub(crate) fn triangle_at(t: f32, dt: f32) -> f32
     ensures { result ≡ triangle t dt }
 {
@@ -41,6 +45,7 @@ pub(crate) fn triangle_at(t: f32, dt: f32) -> f32
     s
 }
 
+#[tactic(auto, unfolding(crate::specs::Waves::shape))]
 fn shape_at(waveform: PolyBlepWaveform, t: f32, dt: f32) -> f32
     requires { T (is_phase t) }
     ensures { result ≡ shape waveform t dt }
@@ -53,6 +58,7 @@ fn shape_at(waveform: PolyBlepWaveform, t: f32, dt: f32) -> f32
     }
 }
 
+#[tactic(auto, unfolding(crate::specs::Waves::sample_at, crate::proofs::Literals::of_bits, crate::proofs::Literals::round, crate::proofs::Literals::neg))]
 pub(crate) fn sample_at(waveform: PolyBlepWaveform, t: f32, dt: f32) -> f32
     requires { T (is_phase t) }
     ensures { result ≡ sample_at waveform t dt }

@@ -2,18 +2,17 @@
 use Prim.Native.Nat.{ℕ, suc, ◌+◌, ◌*◌, ◌≤◌, ◌<◌}
 use native.Mathlib.Nat.{suc-mul, mul-le-mul_right}
 use native.Mathlib.Omega.{arith}
-use mathlib.Core.Path.{◌≡◌, refl, ap, sym, ◌∙◌}
+use mathlib.Core.Path.{◌≡◌, refl, ap, ◌∙◌}
 use mathlib.Core.Bool.{Bool, true, false, cond, not, ◌&&◌, ◌||◌, true≢false}
 use mathlib.Core.List.{List, [], ◌∷◌}
 use mathlib.Core.Option.{Option, none, some, or_else}
 use lib.Dec.{leb, ltb, eqb}
-use lib.ListN.{length, get_elem?}
+use lib.ListN.{get_elem?}
 use borrow.Author.Tests.{le-leb, lt-leb, lt-ltb, le-ltb, leb-true, leb-false, ltb-true, ltb-false, eq-eqb, ne_eqb, not-true, not-false}
 use Rattle.laws.specs.Lists.{All}
 use Rattle.laws.proofs.Lists.{all-imp}
 use Rattle.ranking.specs.Demand.{Allowed, free, taken, refused}
 use Rattle.ranking.specs.Rule.{first_where, none_below, none_older, first_free, first_lowest, oldest_lowest, lowest_priority, lowest_oldest}
-use Rattle.ranking.proofs.Places.{at_length}
 use Rattle.ranking.proofs.Rule.{and-true, Found, found, none-below-all, none-lowest}
 use Rattle.ranking.proofs.Ranked.{ranked-lowest}
 

@@ -4,7 +4,7 @@ use native.Mathlib.Omega.{arith}
 use mathlib.Core.Path.{◌≡◌, refl, ap, subst}
 use mathlib.Core.List.{List, [], ◌∷◌}
 use mathlib.Core.Option.{some, none-ne-some, some-injective}
-use lib.ListN.{length, get_or, set, get_elem?}
+use lib.ListN.{length, set, get_elem?}
 use Rattle.laws.specs.Lists.{All}
 
 module _ {A : Type 0} where

@@ -54,8 +54,10 @@ pub fn room_for(c: Clock, rate: u32, cells: usize) -> Room
     if other_rate(c, rate) {
         return Room::OtherRate;
     }
-    let h = wav::header(rate, more_frames(c.frames, cells / 2));
-    if h.fits { Room::Fits } else { Room::TooLong }
+    match wav::header(rate, more_frames(c.frames, cells / 2)) {
+        Some(_) => Room::Fits,
+        None => Room::TooLong,
+    }
 }
 
 // Two steps in turn: how both went, by the later error.
@@ -112,6 +114,6 @@ pub fn add<'a>(f: SoundFile<'a>, rate: u32, cells: &[i16], kept: &mut [u8]) -> S
 
 // The first bytes of the file, in their place whatever was written after them.
 pub fn write_header(file: &File, c: Clock) -> io::Result<()> {
-    let h = wav::header(c.rate, c.frames);
-    file.write_all_at(&h.bytes, 0)
+    let bytes = wav::header(c.rate, c.frames).unwrap_or([0; 44]);
+    file.write_all_at(&bytes, 0)
 }

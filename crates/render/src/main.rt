@@ -87,7 +87,7 @@ fn finish(rt: &(impl Print + Eprint), path: &str, f: SoundFile<'_>, rate: u32, k
     }
 }
 
-// A proved loop has to end, and nothing says that the input does: the turns are counted down from a number that no run uses up.
+// A proved loop has to end, and nothing says that the input does: the turns are counted to a number that no run reaches.
 fn run_all(rt: &(impl Print + Eprint), path: &str, input: &mut Source, file: &File) {
     let mut line = [0u8; 8195];
     let mut lent = [0u8; 4096];
@@ -111,12 +111,13 @@ fn run_all(rt: &(impl Print + Eprint), path: &str, input: &mut Source, file: &Fi
         file,
         session: Session::new(),
     };
-    let mut turns = u64::MAX;
-    while turns > 0 && r.place.more {
+    for _ in 0..u64::MAX {
+        if !r.place.more {
+            break;
+        }
         r = read_some(
             rt, input, r, &mut line, &mut lent, &mut out, &mut cells, &mut kept,
         );
-        turns -= 1;
     }
     let f = r.file;
     finish(rt, path, f, rate_of(r.session), &kept);
@@ -134,8 +135,8 @@ fn render_to(rt: &HostRuntime, path: &str) {
             return;
         }
     };
-    let h = wav::header(0, 0);
-    match file.write_all(&h.bytes) {
+    let bytes = wav::header(0, 0).unwrap_or([0; 44]);
+    match file.write_all(&bytes) {
         Ok(()) => run_all(rt, path, &mut input, &file),
         Err(error) => problems::fail(rt, path, error),
     }

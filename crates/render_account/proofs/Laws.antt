@@ -1,4 +1,5 @@
 -- No line of the account is longer than a text holds. Assumes nothing.
+use Rattle.std.specs.Prelude.{None, Option, Some}
 use Prim.Native.Nat.{ℕ, ◌*◌, ◌-◌, ◌≤◌}
 use mathlib.Core.Path.{refl}
 use mathlib.Core.Bool.{Bool, true, false}
@@ -15,13 +16,12 @@ use Rattle.render_texts.proofs.Whole.{either-within, words-within, decimal-withi
 use Rattle.hex_digits.specs.Hex.{byte_at, wide_at, long_at}
 use Rattle.voice.specs.Voices.{audible}
 use Rattle.mixer.specs.Mixers.{voice_read}
-use Rattle.mixer.specs.declared.VoiceRead.{VoiceRead}
-use Rattle.mixer.specs.declared.VoiceRead.TheVariants as R
 use Rattle.replay_box.specs.Boxes.{mixer_of, kept_in}
 use Rattle.replay_box.specs.declared.OpenBox.{OpenBox}
-use Rattle.waiting.specs.declared.Kept.{Kept}
 use Rattle.render_account.specs.Account as T
 use Rattle.render_account.specs.Waits as W
+use Rattle.error.specs.declared.AudioError.{AudioError}
+use Rattle.voice.specs.declared.Voice.{Voice}
 
 added-within : (n : ℕ) → length (T.added_text n) ≤ 55
 unfolding T.added_text
@@ -46,9 +46,9 @@ unfolding T.from_text
 from-within true priority = simp length-append (omega (arith, decimal-within priority))
 from-within false priority = simp length-append (omega (arith, decimal-within priority))
 
-taken-within : (present : Bool) (v : VoiceRead) → length (T.taken_text present v) ≤ 56
-taken-within present R.None = omega arith
-taken-within present (R.Voice v) = either-within 56 (audible v) _ _ (from-within present v.priority) (omega arith)
+taken-within : (present : Bool) (v : Option Voice) → length (T.taken_text present v) ≤ 56
+taken-within present None = omega arith
+taken-within present (Some v) = either-within 56 (audible v) _ _ (from-within present v.priority) (omega arith)
 
 voice-within : (e : OpenBox) (voice : ℕ) → length (T.voice_text e voice) ≤ 84
 unfolding T.voice_text
@@ -129,7 +129,7 @@ unfolding T.total_text
 total-within c = simp length-append (omega (arith, seconds-within (milliseconds_of c), decimal-within c.rate, decimal-within (4 * c.frames)))
 
 -- ---- requests that wait
-dropped-within : (before after : Kept) → length (W.dropped_text before after) ≤ 128
+dropped-within : (before after : Option (AudioError × ℕ)) → length (W.dropped_text before after) ≤ 128
 unfolding W.dropped_text
 dropped-within before after =
     words-within 128 (eqb (W.kept_key before) (W.kept_key after)) _ _ refl

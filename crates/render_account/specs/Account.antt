@@ -1,5 +1,5 @@
 -- The account of a run: a line of text for each record that does something, and for each that is turned down. Assumes nothing.
-use Rattle.std.specs.Prelude.{ℕ, ◌*◌, Bool, cond, List, [], ◌++◌, eqb}
+use Rattle.std.specs.Prelude.{ℕ, ◌*◌, Bool, cond, List, [], ◌++◌, eqb, None, Option, Some}
 use Rattle.config.specs.Config.{rounded_up, fade_step}
 use Rattle.frame.specs.Lasting.{fade_count}
 use Rattle.render_texts.specs.Texts.{words, decimal, things, time_text, seconds_text, tenths_text, milliseconds_of}
@@ -7,10 +7,9 @@ use Rattle.render_texts.specs.declared.Clock.{Clock}
 use Rattle.hex_digits.specs.Hex.{byte_at, wide_at, long_at}
 use Rattle.voice.specs.Voices.{audible}
 use Rattle.mixer.specs.Mixers.{voice_read}
-use Rattle.mixer.specs.declared.VoiceRead.{VoiceRead}
-use Rattle.mixer.specs.declared.VoiceRead.TheVariants as R
 use Rattle.replay_box.specs.Boxes.{mixer_of}
 use Rattle.replay_box.specs.declared.OpenBox.{OpenBox}
+use Rattle.voice.specs.declared.Voice.{Voice}
 
 -- "Numbers that requests add" (document 02), in words
 unfoldable pub added_text : ℕ → List ℕ
@@ -73,9 +72,9 @@ unfoldable pub from_text : Bool → ℕ → List ℕ
 from_text present priority = cond present (words ", taken from the oldest at priority ") (words ", taken from priority ") ++ decimal priority
 
 -- whose voice it was, where it was audible
-abbrev pub taken_text : Bool → VoiceRead → List ℕ
-taken_text present R.None = []
-taken_text present (R.Voice v) = cond (audible v) (from_text present v.priority) []
+abbrev pub taken_text : Bool → Option Voice → List ℕ
+taken_text present None = []
+taken_text present (Some v) = cond (audible v) (from_text present v.priority) []
 
 -- the voice that a request got
 unfoldable pub voice_text : OpenBox → ℕ → List ℕ

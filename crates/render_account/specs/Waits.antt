@@ -1,14 +1,13 @@
 -- The account of requests that wait (document 02, T-08): each that is left or withdrawn, and how many left the line in the frames of a record. Assumes nothing.
-use Rattle.std.specs.Prelude.{ℕ, ◌+◌, ◌-◌, ◌*◌, cond, List, [], ◌++◌, eqb, leb}
+use Rattle.std.specs.Prelude.{ℕ, ◌+◌, ◌-◌, ◌*◌, cond, List, [], ◌++◌, eqb, leb, None, Option, Some}
 use Rattle.error.specs.Numbers.{number_of}
 use Rattle.hex_digits.specs.Hex.{byte_at, wide_at}
 use Rattle.render_texts.specs.Texts.{words, decimal, things, time_text}
 use Rattle.render_texts.specs.declared.Clock.{Clock}
 use Rattle.replay_box.specs.Boxes.{kept_in}
 use Rattle.replay_box.specs.declared.OpenBox.{OpenBox}
-use Rattle.waiting.specs.declared.Kept.{Kept}
-use Rattle.waiting.specs.declared.Kept.TheVariants as K
 use Rattle.render_account.specs.Account.{why_text, end_text, number_in}
+use Rattle.error.specs.declared.AudioError.{AudioError}
 
 unfoldable pub leave_text : List ℕ → List ℕ → Clock → List ℕ
 leave_text l answer c =
@@ -19,20 +18,20 @@ unfoldable pub withdraw_text : List ℕ → List ℕ → Clock → List ℕ
 withdraw_text l answer c = time_text c ++ words "withdraw label " ++ decimal (wide_at l 1) ++ end_text (number_in answer)
 
 -- "the latest such refusal is kept for reading with its label": 0 and 0 where there is none
-abbrev pub kept_number : Kept → ℕ
-kept_number K.Nothing = 0
-kept_number (K.Refusal error label) = number_of error
+abbrev pub kept_number : Option (AudioError × ℕ) → ℕ
+kept_number None = 0
+kept_number (Some (error, label)) = number_of error
 
-abbrev pub kept_label : Kept → ℕ
-kept_label K.Nothing = 0
-kept_label (K.Refusal error label) = label
+abbrev pub kept_label : Option (AudioError × ℕ) → ℕ
+kept_label None = 0
+kept_label (Some (error, label)) = label
 
 -- both as one number
-abbrev pub kept_key : Kept → ℕ
+abbrev pub kept_key : Option (AudioError × ℕ) → ℕ
 kept_key k = 65536 * kept_number k + kept_label k
 
 -- the one that was dropped last, where it is another than before
-unfoldable pub dropped_text : Kept → Kept → List ℕ
+unfoldable pub dropped_text : Option (AudioError × ℕ) → Option (AudioError × ℕ) → List ℕ
 dropped_text before after =
     cond (eqb (kept_key before) (kept_key after)) (words "\n")
     (words ", the last dropped: label " ++ decimal (kept_label after) ++ words ", " ++ decimal (kept_number after) ++ words ": " ++ why_text (kept_number after) ++ words "\n")

@@ -4,10 +4,10 @@ ghost use Rattle.render_texts.specs.Texts.{Says, Tells, Adds};
 ghost use Rattle.render_account.specs.Waits as T;
 
 use super::words::{ended, why};
+use error::AudioError;
 use hex_digits::{byte_at, wide_at};
 use render_texts::{Clock, Text, at_time, count, empty, say, things};
 use replay_box::OpenBox;
-use waiting::Kept;
 
 fn left(l: &[u8], answer: &[u8], c: Clock) -> Text
     ensures { Says (T.leave_text l.now answer.now c) result }
@@ -25,25 +25,25 @@ fn withdrawn(l: &[u8], answer: &[u8], c: Clock) -> Text
     ended(asked, byte_at(answer, 0))
 }
 
-fn kept_number(k: Kept) -> u8
+fn kept_number(k: Option<(AudioError, u16)>) -> u8
     ensures { result ≡ T.kept_number k }
 {
     match k {
-        Kept::Nothing => 0,
-        Kept::Refusal(error, _) => error.number(),
+        None => 0,
+        Some((error, _)) => u8::from(error),
     }
 }
 
-fn kept_label(k: Kept) -> u16
+fn kept_label(k: Option<(AudioError, u16)>) -> u16
     ensures { result ≡ T.kept_label k }
 {
     match k {
-        Kept::Nothing => 0,
-        Kept::Refusal(_, label) => label,
+        None => 0,
+        Some((_, label)) => label,
     }
 }
 
-fn kept_key(k: Kept) -> u32
+fn kept_key(k: Option<(AudioError, u16)>) -> u32
     ensures { result ≡ T.kept_key k }
 {
     let number = kept_number(k) as u32;
@@ -52,7 +52,7 @@ fn kept_key(k: Kept) -> u32
 }
 
 // The one that was dropped last, where it is another than before.
-fn dropped(t: Text, before: Kept, after: Kept) -> Text
+fn dropped(t: Text, before: Option<(AudioError, u16)>, after: Option<(AudioError, u16)>) -> Text
     ensures { Adds t (T.dropped_text before after) result }
 {
     if kept_key(before) == kept_key(after) {

@@ -4,7 +4,6 @@ ghost use Rattle.replay_box.specs.Boxes.{ValidBox};
 ghost use Rattle.render_account.specs.Account as T;
 
 use hex_digits::{long_at, wide_at};
-use mixer::VoiceRead;
 use render_texts::{Text, count, say, tenths};
 use replay_box::OpenBox;
 
@@ -80,8 +79,8 @@ pub(crate) fn voiced(t: Text, e: OpenBox, voice: u8) -> Text
 {
     let got = count(say(t, b": voice "), voice as u64);
     match e.voice(voice as usize) {
-        VoiceRead::None => got,
-        VoiceRead::Voice(v) => {
+        None => got,
+        Some(v) => {
             if v.is_audible() {
                 return taken(got, e.is_present(), v.priority);
             }

@@ -1,6 +1,6 @@
 -- What callers cite.
 --     Laws      a piece said after another: then, joined, nothing
---     Whole     how long a text is at most: and, either, these, number, some, seconds, time; such a text is whole: whole
+--     Whole     how long a text is at most: either-within, words-within, decimal-within and their like; such a text is whole: whole
 --     Cut       lists held to a length
 --     Spelling  a number's digits, put from the last one on
 --     Fewest    they are the kit's: as few as a number has, and at most 20 below 2^64

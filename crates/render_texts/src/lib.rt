@@ -1,18 +1,19 @@
 // A line of text as it is put together: words, numbers and times. What goes past its room is left out.
 #![tactic(auto)]
 
-ghost use Rattle.std.specs.Prelude.{◌≡◌, ◌≤◌, [], min, drop};
+ghost use Rattle.std.specs.Prelude.{◌≡◌, ◌≤◌, [], drop};
 ghost use Rattle.render_texts.specs.Texts as T;
 
-// The first len of these bytes.
-#[derive(Clone, Copy)]
+// The first len of these bytes, a String with no heap. No invariant on len: every text may be said more, one that is too long too, and a
+// narrower type would ask more of callers. Derived equality would tell apart texts that say the same.
+#[derive(Clone, Copy, Debug)]
 pub struct Text {
     pub bytes: [u8; 256],
     pub len: usize,
 }
 
 // A time in the sound: so many frames, at a rate.
-#[derive(Clone, Copy)]
+#[derive(Clone, Copy, Debug, PartialEq, Eq)]
 pub struct Clock {
     pub frames: u32,
     pub rate: u32,
@@ -27,24 +28,17 @@ pub fn empty() -> Text
     }
 }
 
-fn held(len: usize) -> usize
-    ensures { result ≡ min len 256 }
-{
-    if len < 256 { len } else { 256 }
-}
-
 pub fn say(t: Text, words: &[u8]) -> Text
     ensures { T.Adds t words.now result }
 {
     let mut bytes = t.bytes;
-    let mut len = held(t.len);
-    let mut i = 0;
-    while i < words.len() && len < 256 {
-        bytes[len] = words[i];
-        len += 1;
-        i += 1;
+    let len = t.len.min(256);
+    let more = words.len().min(256 - len);
+    bytes[len..len + more].copy_from_slice(&words[..more]);
+    Text {
+        bytes,
+        len: len + more,
     }
-    Text { bytes, len }
 }
 
 fn digit(n: u64) -> u8
@@ -53,7 +47,8 @@ fn digit(n: u64) -> u8
     48 + (n % 10) as u8
 }
 
-// Puts a number's digits at the end, and says where they begin.
+// Puts a number's digits at the end, and says where they begin. By hand: std's Display writes into a String or a fmt::Write, and the
+// kit's itoa would be one more library to believe. No `for`: only the digits themselves show how many there are.
 fn decimal(n: u64, digits: &mut [u8; 20]) -> usize
     ensures in_bounds { result ≤ 20 }
     ensures digits { drop result digits.new ≡ T.decimal n }
@@ -78,6 +73,7 @@ pub fn count(t: Text, n: u64) -> Text
 }
 
 // A number of things, as "1 voice" and "3 voices".
+#[tactic(auto, using(crate::proofs::Laws::joined, crate::proofs::Laws::nothing), unfolding(crate::specs::Texts::things))]
 pub fn things(t: Text, n: u64, name: &[u8]) -> Text
     ensures { T.Adds t (T.things n name.now) result }
 {
@@ -95,10 +91,11 @@ fn milliseconds(c: Clock) -> u64
     if c.rate == 0 {
         return 0;
     }
-    (c.frames as u64) * 1000 / (c.rate as u64)
+    u64::from(c.frames) * 1000 / u64::from(c.rate)
 }
 
 // Milliseconds as seconds with three digits, as "12.500 s".
+#[tactic(auto, using(crate::proofs::Laws::joined), unfolding(crate::specs::Texts::seconds_text))]
 fn seconds(t: Text, ms: u64) -> Text
     ensures { T.Adds t (T.seconds_text ms) result }
 {
@@ -109,6 +106,7 @@ fn seconds(t: Text, ms: u64) -> Text
 }
 
 // Tenths as a number with a digit after the point, as "4.7".
+#[tactic(auto, using(crate::proofs::Laws::joined), unfolding(crate::specs::Texts::tenths_text))]
 pub fn tenths(t: Text, n: u64) -> Text
     ensures { T.Adds t (T.tenths_text n) result }
 {
@@ -117,6 +115,7 @@ pub fn tenths(t: Text, n: u64) -> Text
     say(whole, &rest)
 }
 
+#[tactic(auto, using(crate::proofs::Laws::then))]
 fn indented(ms: u64) -> Text
     ensures { T.Says (T.indent ms) result }
 {
@@ -137,6 +136,7 @@ fn indented(ms: u64) -> Text
 }
 
 // The time at the head of a line.
+#[tactic(auto, using(crate::proofs::Laws::then), unfolding(crate::specs::Texts::time_text))]
 pub fn at_time(c: Clock) -> Text
     ensures { T.Says (T.time_text c) result }
 {
@@ -146,6 +146,7 @@ pub fn at_time(c: Clock) -> Text
 }
 
 // How much sound there is.
+#[tactic(auto, using(crate::proofs::Laws::then))]
 pub fn so_long(c: Clock) -> Text
     ensures { T.Says (T.seconds_text (T.milliseconds_of c)) result }
 {

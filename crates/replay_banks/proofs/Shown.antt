@@ -1,4 +1,5 @@
 -- What a call that writes a bank tells and leaves of a part of a blank buffer, as it is printed. Assumes nothing.
+use Rattle.std.specs.Prelude.{Err, Ok}
 use mathlib.Core.Path.{◌≡◌, refl, sym, ap, ◌∙◌}
 use mathlib.Core.List.{List, ◌∷◌, ◌++◌}
 use Prim.Native.Nat.{ℕ, zero, suc, ◌+◌, ◌*◌, ◌≤◌, ◌<◌}
@@ -9,7 +10,6 @@ use Rattle.error.specs.Numbers.{number_of}
 use Rattle.error.specs.Told.{Told}
 use Rattle.error.specs.declared.AudioError.{AudioError}
 use Rattle.bank_writer.specs.Refusals.{Wrote, cells_after}
-use Rattle.bank_writer.specs.declared.BankWritten.TheVariants as W
 use Rattle.bank_writer.proofs.Answers.{wrote-refused, wrote-length}
 use Rattle.hex_digits.specs.Hex as hex
 use Rattle.hex_digits.proofs.Texts.{length-hex_of}
@@ -17,10 +17,10 @@ use Rattle.replay_cells.specs.Cells.{byte_text, numbered_text}
 use Rattle.replay_cells.proofs.Turns.{numbered-all}
 use Rattle.replay_banks.specs.Record.{word_of, Left}
 
-pub left-refused : {t : Told (List ℕ)} {before after : List ℕ} {e : AudioError} → Wrote t before after (W.Refused e) → Left t before after (number_of e * 4294967296)
+pub left-refused : {t : Told (List ℕ)} {before after : List ℕ} {e : AudioError} → Wrote t before after (Err e) → Left t before after (number_of e * 4294967296)
 left-refused w = record { word = rw (wrote-refused w); cells = w.cells }
 
-pub left-length : {t : Told (List ℕ)} {before after : List ℕ} {n : ℕ} → Wrote t before after (W.Length n) → Left t before after n
+pub left-length : {t : Told (List ℕ)} {before after : List ℕ} {n : ℕ} → Wrote t before after (Ok n) → Left t before after n
 left-length w = let b = wrote-length w in record { word = rw b.told b.size; cells = w.cells }
 
 take-replicate : (k n : ℕ) (x : ℕ) → n ≤ k → take n (replicate k x) ≡ replicate n x

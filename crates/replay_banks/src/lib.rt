@@ -5,10 +5,10 @@ ghost use Rattle.std.specs.Prelude.{◌≡◌, ◌-◌, ◌/◌, min, length, re
 ghost use Rattle.hex_digits.specs.Hex.{Wrote};
 ghost use Rattle.replay_banks.specs.Record.{header_at, rest_at, end_of, bank_of, bank_text, Left};
 
-use bank_writer::BankWritten;
 use hex_digits::{byte_at, bytes_from, wide_at};
-use replay_cells::put_u8s;
+use replay_cells::put_cells;
 
+// Ten by hand: tried `std::array::from_fn`; that its cells are the line's bytes needs an induction over the calls, longer than these.
 fn header(l: &[u8]) -> [u8; 10]
     ensures { result ≡ header_at l.now }
 {
@@ -30,18 +30,14 @@ fn header(l: &[u8]) -> [u8; 10]
 fn rest_len(digits: usize) -> usize
     ensures { result ≡ min (digits / 2 - 14) 4083 }
 {
-    if digits < 28 {
-        return 0;
-    }
-    if digits > 8194 { 4083 } else { digits / 2 - 14 }
+    (digits / 2).saturating_sub(14).min(4083)
 }
 
 // Where the entries end and the payloads begin.
 fn end_of(count: u8, rest: &[u8]) -> usize
     ensures { result ≡ end_of count rest.now }
 {
-    let end = 13 * (count as usize);
-    if end < rest.len() { end } else { rest.len() }
+    (13 * usize::from(count)).min(rest.len())
 }
 
 // The call, and what it answers: the refusal's number before eight zeros, or the length.
@@ -51,9 +47,9 @@ fn write(l: &[u8], rest: &[u8], out: &mut [u8]) -> u64
     let count = byte_at(l, 13);
     let end = end_of(count, rest);
     let entries = bank_writer::entries_from(&rest[..end]);
-    match bank_writer::write_bank(header(l), entries, count as usize, &rest[end..], out) {
-        BankWritten::Refused(e) => (e.number() as u64) * 0x1_0000_0000,
-        BankWritten::Length(len) => len as u64,
+    match bank_writer::write_bank(header(l), entries, usize::from(count), &rest[end..], out) {
+        Err(e) => u64::from(u8::from(e)) * 0x1_0000_0000,
+        Ok(len) => len as u64,
     }
 }
 
@@ -69,7 +65,7 @@ fn write_rest(l: &[u8], out: &mut [u8]) -> u64
 fn room(wide: u16) -> usize
     ensures { result ≡ min wide 4096 }
 {
-    if wide > 4096 { 4096 } else { wide as usize }
+    usize::from(wide).min(4096)
 }
 
 fn blank() -> [u8; 4096]
@@ -85,5 +81,5 @@ pub fn bank(l: &[u8], out: &mut [u8; 262144]) -> usize
     let n = room(wide_at(l, 11));
     let mut cells = blank();
     let word = write_rest(l, &mut cells[..n]);
-    put_u8s(out, word, 10, &cells[..n])
+    put_cells(out, word, 10, &cells[..n])
 }

@@ -1,11 +1,11 @@
 -- Frames on either side of a map that they go along, and the box that is open along each of the two. Assumes nothing.
 use Prim.Native.Nat.{ℕ}
-use mathlib.Core.Path.{◌≡◌, refl, sym, ap, ◌∙◌}
+use mathlib.Core.Path.{◌≡◌, sym, ap, ◌∙◌}
 use mathlib.Core.Bool.{true, false}
 use mathlib.Core.List.{List, [], ◌∷◌, ◌++◌, map}
 use lib.IntN.{ℤ}
 use lib.ListN.{drop}
-use Rattle.buffers.specs.Buffers.{Done, FillsIn, to_u12, to_u16}
+use Rattle.buffers.specs.Buffers.{Done, FillsIn}
 use Rattle.buffers.specs.Shapes.{Frames, mixer_frames, shape_step, shape_raw, level_next, level_cell, FillsShape, FillsLevel}
 use Rattle.buffers.specs.declared.Level.{Level}
 use Rattle.buffers.specs.declared.Level.TheVariants.{Duty, U12, U16}

@@ -1,6 +1,6 @@
 -- The box that a script has open, and each call on it as that box's contract has it. "10 opens document 01's box, 70 .. one of the present
 -- rules, at any time; the one opened last is the one that the records .. go to, each with that box's rules". Assumes nothing.
-use Rattle.std.specs.Prelude.{ℕ, Bool, true, false, cond, List, replicate}
+use Rattle.std.specs.Prelude.{ℕ, Bool, true, false, cond, List, replicate, Option}
 use Rattle.allocate.specs.Allocation.{allocated, allocated_oldest}
 use Rattle.config.specs.declared.AudioConfig.{AudioConfig}
 use Rattle.engine.specs.Engines as E
@@ -24,11 +24,11 @@ use Rattle.sounder.specs.declared.SounderPlayed.{SounderPlayed}
 use Rattle.start.specs.declared.Request.{Request}
 use Rattle.tone.specs.declared.Waveform.{Waveform}
 use Rattle.waiting.specs.Lines.{in_line}
-use Rattle.waiting.specs.declared.Kept.{Kept}
 use Rattle.waiting.specs.declared.Waiting.{Waiting}
 use Rattle.replay_box.specs.declared.OpenBox.{OpenBox}
 use Rattle.replay_box.specs.declared.BoxChanged.{BoxChanged}
 use Rattle.replay_box.specs.declared.BoxPlayed.{BoxPlayed}
+use Rattle.error.specs.declared.AudioError.{AudioError}
 
 pub record ValidBox (b : OpenBox) : Type 0 where
   pub engine : E.ValidEngine b.engine
@@ -114,7 +114,7 @@ withdrawn b label = sounder_changed b (C.withdrawn_in b.sounder.state label)
 abbrev pub waiting_in : OpenBox → List Waiting
 waiting_in b = in_line b.sounder.state.line
 
-abbrev pub kept_in : OpenBox → Kept
+abbrev pub kept_in : OpenBox → Option (AudioError × ℕ)
 kept_in b = b.sounder.state.kept
 
 unfoldable pub played : OpenBox → List ℕ → Request → BoxPlayed

@@ -7,8 +7,8 @@ ghost use Rattle.replay_box.specs.Boxes.{ValidBox, ValidBoxChanged, no_box, open
 
 use config::AudioConfig;
 use engine::AudioEngine;
-use mixer::{Outcome, VoiceStealingPolicy};
-use play::PlayOutcome;
+use error::AudioError;
+use mixer::VoiceStealingPolicy;
 use sounder::Sounder;
 
 pub mod fills;
@@ -27,13 +27,13 @@ pub struct OpenBox {
 
 #[derive(Clone, Copy)]
 pub struct BoxChanged {
-    pub outcome: Outcome,
+    pub outcome: Result<(), AudioError>,
     pub held: OpenBox,
 }
 
 #[derive(Clone, Copy)]
 pub struct BoxPlayed {
-    pub outcome: PlayOutcome,
+    pub outcome: Result<usize, AudioError>,
     pub held: OpenBox,
 }
 

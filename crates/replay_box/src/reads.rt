@@ -1,18 +1,19 @@
 // What a script asks of the box that it has open.
 ghost use Rattle.std.specs.Prelude.{◌≡◌};
+ghost use Rattle.error.specs.Told.{told};
 ghost use Rattle.allocate.specs.Allocation.{told_place};
-ghost use Rattle.bank.specs.Banks.{payload_under, told_payload, payload_part};
-ghost use Rattle.bank.specs.Entries.{told_entry};
+ghost use Rattle.bank.specs.Banks.{payload_under, payload_part};
 ghost use Rattle.bank.specs.Search.{found_given};
 ghost use Rattle.frame.specs.Lasting.{frames_left};
 ghost use Rattle.mixer.specs.Mixers as M;
 ghost use Rattle.replay_box.specs.Boxes.{ValidBox, mixer_of, place_in, ranks_of};
 
 use crate::OpenBox;
-use allocate::Allocated;
-use bank::{EntryRead, PayloadRead};
+use bank::EffectEntry;
 use config::AudioConfig;
-use mixer::{Mixer, PanRead, VoiceRead, VoiceStealingPolicy};
+use error::AudioError;
+use mixer::{Mixer, VoiceStealingPolicy};
+use voice::Voice;
 
 impl OpenBox {
     // The state, to be looked at.
@@ -35,7 +36,7 @@ impl OpenBox {
         self.present
     }
 
-    pub fn voice(self, idx: usize) -> VoiceRead
+    pub fn voice(self, idx: usize) -> Option<Voice>
         requires { ValidBox self }
         ensures { result ≡ M.voice_read (mixer_of self) idx }
     {
@@ -47,7 +48,7 @@ impl OpenBox {
         e.voice(idx)
     }
 
-    pub fn voice_pan(self, idx: usize) -> PanRead
+    pub fn voice_pan(self, idx: usize) -> Option<u8>
         requires { ValidBox self }
         ensures { result ≡ M.pan_read (mixer_of self) idx }
     {
@@ -106,7 +107,7 @@ impl OpenBox {
         e.fade_frames_left()
     }
 
-    pub fn allocate_voice(self, priority: u8) -> Allocated
+    pub fn allocate_voice(self, priority: u8) -> Option<usize>
         requires { ValidBox self }
         ensures { told_place result ≡ place_in self priority }
     {
@@ -129,9 +130,9 @@ impl OpenBox {
         [255; 16]
     }
 
-    pub fn find_by_id(self, bytes: &[u8], id: u16) -> EntryRead
+    pub fn find_by_id(self, bytes: &[u8], id: u16) -> Result<EffectEntry, AudioError>
         requires { ValidBox self }
-        ensures { told_entry result ≡ found_given (mixer_of self).bank bytes.now id }
+        ensures { told result ≡ found_given (mixer_of self).bank bytes.now id }
     {
         if self.present {
             let s = self.sounder;
@@ -141,8 +142,8 @@ impl OpenBox {
         e.find_by_id(bytes, id)
     }
 
-    pub fn payload_number(self, bytes: &[u8], offset: u32, len: u32) -> PayloadRead
-        ensures { told_payload result ≡ payload_under self.present (mixer_of self).bank bytes.now offset len }
+    pub fn payload_number(self, bytes: &[u8], offset: u32, len: u32) -> Result<(), AudioError>
+        ensures { told result ≡ payload_under self.present (mixer_of self).bank bytes.now offset len }
     {
         if self.present {
             let s = self.sounder;

@@ -7,7 +7,8 @@ ghost use Rattle.waiting.specs.Lines.{first_of, label_cells};
 
 use crate::{BoxChanged, OpenBox};
 use envelope::AdsrSpec;
-use waiting::{Kept, NextInLine};
+use error::AudioError;
+use waiting::Waiting;
 
 impl OpenBox {
     pub fn leave(self, label: u16, effect_id: u16, adsr: AdsrSpec, priority: u8) -> BoxChanged
@@ -50,7 +51,7 @@ impl OpenBox {
         s.waiting_labels()
     }
 
-    pub fn next_in_line(self) -> NextInLine
+    pub fn next_in_line(self) -> Option<Waiting>
         requires { ValidBox self }
         ensures { result ≡ first_of (waiting_in self) }
     {
@@ -58,7 +59,7 @@ impl OpenBox {
         s.next_in_line()
     }
 
-    pub fn kept_refusal(self) -> Kept
+    pub fn kept_refusal(self) -> Option<(AudioError, u16)>
         ensures { result ≡ kept_in self }
     {
         let s = self.sounder;

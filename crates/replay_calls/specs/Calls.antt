@@ -1,18 +1,13 @@
 -- The records 11, 13 to 1D, 2B, 2C, 30, 62 to 69, 73, 79 and 7A: the length and the fields that each allows, the call that it makes, and the reply. Fields count
 -- from byte 1 on. Assumes nothing.
-use Rattle.std.specs.Prelude.{ℕ, ◌+◌, ◌*◌, Bool, false, cond, ◌&&◌, List, leb, eqb, length}
+use Rattle.std.specs.Prelude.{ℕ, ◌+◌, ◌*◌, Bool, false, cond, ◌&&◌, List, leb, eqb, length, None, Option, Result, Some}
 use Rattle.std.specs.Int.{w8, w16}
 use Rattle.std.proofs.Common.{of_z}
-use Rattle.error.specs.Told.{Told, value, refused, number_in}
+use Rattle.error.specs.Told.{told, Told, value, refused, number_in}
 use Rattle.bank.specs.Search.{found_given}
 use Rattle.bank.specs.declared.EffectEntry.{EffectEntry}
 use Rattle.mixer.specs.Mixers as M
-use Rattle.mixer.specs.declared.Outcome.{Outcome}
-use Rattle.mixer.specs.declared.PanRead.{PanRead}
-use Rattle.mixer.specs.declared.PanRead.TheVariants as Q
 use Rattle.frame.specs.Lasting.{frames_left}
-use Rattle.play.specs.Plays.{told_play}
-use Rattle.play.specs.declared.PlayOutcome.{PlayOutcome}
 use Rattle.sounder.specs.Sounders.{request_of}
 use Rattle.replay_box.specs.Boxes.{ValidBox, mixer_of, place_in, banked, played, faded, faded_on, toned, poly_bleped, panned, with_master_gain, stopped}
 use Rattle.replay_box.specs.Frames.{sampled, dutied, sided, wide_sided}
@@ -29,6 +24,7 @@ use Rattle.replay_fields.specs.States.{flag_number}
 use Rattle.replay_calls.specs.declared.Reply.{Reply}
 use Rattle.replay_calls.specs.declared.Reply.TheVariants as R
 use Rattle.replay_calls.specs.declared.Called.{Called}
+use Rattle.error.specs.declared.AudioError.{AudioError}
 
 abbrev pub ValidCalled : Called → Type 0
 ValidCalled c = ValidBox c.held
@@ -69,8 +65,8 @@ allowed code l =
     (cond (eqb code 0x7A) (sized_as 0 l) false)))))))))))))))))))))))))
 
 -- "number: two digits, 00 where accepted, else the refusal number"
-abbrev pub outcome_reply : Outcome → Reply
-outcome_reply o = R.Number (number_in (M.told_outcome o))
+abbrev pub outcome_reply : Result (Unit {0}) AudioError → Reply
+outcome_reply o = R.Number (number_in (told o))
 
 abbrev pub changed_call : BoxChanged → Called
 changed_call c = record { reply = outcome_reply c.outcome; held = c.held }
@@ -80,8 +76,8 @@ abbrev pub place_reply : Told ℕ → Reply
 place_reply (value i) = R.Two 0 i
 place_reply (refused n) = R.Two n 0xFF
 
-abbrev pub play_reply : PlayOutcome → Reply
-play_reply o = place_reply (told_play o)
+abbrev pub play_reply : Result ℕ AudioError → Reply
+play_reply o = place_reply (told o)
 
 abbrev pub played_call : BoxPlayed → Called
 played_call p = record { reply = play_reply p.outcome; held = p.held }
@@ -160,9 +156,9 @@ unfoldable pub plain_play_call : List ℕ → List ℕ → OpenBox → Called
 plain_play_call l bytes e = played_call (played e bytes (request_of (wide_at l 1) (spec_at l 3) 128))
 
 -- 63, pan of a voice: "voice (1) | 01 and the pan, or 00 where there is no such voice"
-abbrev pub pan_reply : PanRead → Reply
-pan_reply (Q.Pan pan) = R.Two 1 pan
-pan_reply Q.None = R.Number 0
+abbrev pub pan_reply : Option ℕ → Reply
+pan_reply (Some pan) = R.Two 1 pan
+pan_reply None = R.Number 0
 
 unfoldable pub pan_read_call : List ℕ → OpenBox → Called
 pan_read_call l e = asked (pan_reply (M.pan_read (mixer_of e) (byte_at l 1))) e

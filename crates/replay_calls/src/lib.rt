@@ -2,21 +2,20 @@
 #![tactic(auto)]
 
 ghost use Rattle.std.specs.Prelude.{◌≡◌, ◌&&◌, leb};
+ghost use Rattle.error.specs.Told.{told};
 ghost use Rattle.laws.specs.Made.{Made};
 ghost use Rattle.hex_digits.specs.Hex.{byte_at};
 ghost use Rattle.allocate.specs.Allocation.{told_place};
-ghost use Rattle.bank.specs.Entries.{told_entry};
 ghost use Rattle.replay_box.specs.Boxes.{ValidBox};
 ghost use Rattle.replay_calls.specs.Calls.{ValidCalled, sized_as, allowed, outcome_reply, play_reply, bank_call, play_call, fade_call, tone_call, poly_blep_call, pan_call, gain_call, stop_call, entry_reply, search_call, place_reply, allocate_call, audible_call, stereo_call, duty_call, plain_play_call, pan_reply, pan_read_call, sample_call, wide_stereo_call, fade_on_call, fade_left_call, ranks_call, later_call, call_for, called};
 
-use allocate::Allocated;
-use bank::{EffectEntry, EntryRead};
-use fixed::as_u8;
-use hex_digits::{byte_at, long_at, unsigned16, wide_at};
-use mixer::{Outcome, PanRead};
-use play::PlayOutcome;
+use bank::EffectEntry;
+use error::AudioError;
+use hex_digits::{byte_at, long_at, wide_at};
 use replay_box::OpenBox;
 use replay_fields::{flag_number, polyblep_waveform, spec_at, tone_waveform};
+use voice::Voice;
+use waiting::Waiting;
 
 // What is answered: that the line is bad, nothing, one number or two, a number of four digits or two of them, a number and a label of four digits, an
 // entry, the part of the bank that was asked for, the state, the policy, the configuration, the voice at an index, the ranks, the labels that wait.
@@ -89,39 +88,39 @@ fn is_allowed(code: u8, l: &[u8]) -> bool
     }
 }
 
-pub fn outcome_reply(o: Outcome) -> Reply
+pub fn outcome_reply(o: Result<(), AudioError>) -> Reply
     ensures { result ≡ outcome_reply o }
 {
     match o {
-        Outcome::Done => Reply::Number(0),
-        Outcome::Refused(e) => Reply::Number(e.number() as u64),
+        Ok(()) => Reply::Number(0),
+        Err(e) => Reply::Number(u8::from(e) as u64),
     }
 }
 
-fn play_reply(o: PlayOutcome) -> Reply
+fn play_reply(o: Result<usize, AudioError>) -> Reply
     ensures { result ≡ play_reply o }
 {
     match o {
-        PlayOutcome::Voice(i) => Reply::Two(0, i as u64),
-        PlayOutcome::Refused(e) => Reply::Two(e.number() as u64, 0xff),
+        Ok(i) => Reply::Two(0, i as u64),
+        Err(e) => Reply::Two(u8::from(e) as u64, 0xff),
     }
 }
 
-fn entry_reply(r: EntryRead) -> Reply
-    ensures { result ≡ entry_reply (told_entry r) }
+fn entry_reply(r: Result<EffectEntry, AudioError>) -> Reply
+    ensures { result ≡ entry_reply (told r) }
 {
     match r {
-        EntryRead::Entry(entry) => Reply::Entry(entry),
-        EntryRead::Refused(e) => Reply::Number(e.number() as u64),
+        Ok(entry) => Reply::Entry(entry),
+        Err(e) => Reply::Number(u8::from(e) as u64),
     }
 }
 
-fn allocated_reply(a: Allocated) -> Reply
+fn allocated_reply(a: Option<usize>) -> Reply
     ensures { result ≡ place_reply (told_place a) }
 {
     match a {
-        Allocated::Voice(i) => Reply::Two(0, i as u64),
-        Allocated::None => Reply::Two(5, 0xff),
+        Some(i) => Reply::Two(0, i as u64),
+        None => Reply::Two(5, 0xff),
     }
 }
 
@@ -130,11 +129,9 @@ fn bank_call(l: &[u8], bytes: &[u8], e: OpenBox) -> Called
     ensures { Made ValidCalled (bank_call l.now bytes.now e) result }
 {
     let c = e.set_bank(bytes, long_at(l, 1), wide_at(l, 5));
-    let outcome = c.outcome;
-    let held = c.held;
     Called {
-        reply: outcome_reply(outcome),
-        held,
+        reply: outcome_reply(c.outcome),
+        held: c.held,
     }
 }
 
@@ -144,11 +141,9 @@ fn play_call(l: &[u8], bytes: &[u8], e: OpenBox) -> Called
 {
     let adsr = spec_at(l, 3);
     let p = e.play_with_priority(bytes, wide_at(l, 1), adsr, byte_at(l, 10));
-    let outcome = p.outcome;
-    let held = p.held;
     Called {
-        reply: play_reply(outcome),
-        held,
+        reply: play_reply(p.outcome),
+        held: p.held,
     }
 }
 
@@ -158,11 +153,9 @@ fn fade_call(l: &[u8], bytes: &[u8], e: OpenBox) -> Called
 {
     let adsr = spec_at(l, 5);
     let c = e.crossfade_to(bytes, wide_at(l, 1), wide_at(l, 3), adsr);
-    let outcome = c.outcome;
-    let held = c.held;
     Called {
-        reply: outcome_reply(outcome),
-        held,
+        reply: outcome_reply(c.outcome),
+        held: c.held,
     }
 }
 
@@ -262,12 +255,11 @@ fn stereo_call(bytes: &[u8], e: OpenBox) -> Called
     ensures { Made ValidCalled (stereo_call bytes.now e) result }
 {
     let f = e.tick_stereo_pcm(bytes);
-    let held = f.held;
-    let left = as_u8(f.left) as u64;
-    let right = as_u8(f.right) as u64;
+    let left = u64::from(f.left.cast_unsigned());
+    let right = u64::from(f.right.cast_unsigned());
     Called {
         reply: Reply::Two(left, right),
-        held,
+        held: f.held,
     }
 }
 
@@ -276,10 +268,9 @@ fn duty_call(bytes: &[u8], e: OpenBox) -> Called
     ensures { Made ValidCalled (duty_call bytes.now e) result }
 {
     let f = e.tick(bytes);
-    let held = f.held;
     Called {
         reply: Reply::Wide(f.duty as u64),
-        held,
+        held: f.held,
     }
 }
 
@@ -289,20 +280,18 @@ fn plain_play_call(l: &[u8], bytes: &[u8], e: OpenBox) -> Called
 {
     let adsr = spec_at(l, 3);
     let p = e.play(bytes, wide_at(l, 1), adsr);
-    let outcome = p.outcome;
-    let held = p.held;
     Called {
-        reply: play_reply(outcome),
-        held,
+        reply: play_reply(p.outcome),
+        held: p.held,
     }
 }
 
-fn pan_reply(p: PanRead) -> Reply
+fn pan_reply(p: Option<u8>) -> Reply
     ensures { result ≡ pan_reply p }
 {
     match p {
-        PanRead::Pan(pan) => Reply::Two(1, pan as u64),
-        PanRead::None => Reply::Number(0),
+        Some(pan) => Reply::Two(1, pan as u64),
+        None => Reply::Number(0),
     }
 }
 
@@ -322,10 +311,9 @@ fn sample_call(bytes: &[u8], e: OpenBox) -> Called
     ensures { Made ValidCalled (sample_call bytes.now e) result }
 {
     let f = e.tick_pcm(bytes);
-    let held = f.held;
     Called {
-        reply: Reply::Number(as_u8(f.pcm) as u64),
-        held,
+        reply: Reply::Number(u64::from(f.pcm.cast_unsigned())),
+        held: f.held,
     }
 }
 
@@ -334,10 +322,9 @@ fn pwm_call(bytes: &[u8], e: OpenBox) -> Called
     ensures { Made ValidCalled (duty_call bytes.now e) result }
 {
     let f = e.tick_pwm(bytes);
-    let held = f.held;
     Called {
         reply: Reply::Wide(f.duty as u64),
-        held,
+        held: f.held,
     }
 }
 
@@ -346,12 +333,11 @@ fn wide_stereo_call(bytes: &[u8], e: OpenBox) -> Called
     ensures { Made ValidCalled (wide_stereo_call bytes.now e) result }
 {
     let f = e.tick_stereo_i16(bytes);
-    let held = f.held;
-    let left = unsigned16(f.left) as u64;
-    let right = unsigned16(f.right) as u64;
+    let left = u64::from(f.left.cast_unsigned());
+    let right = u64::from(f.right.cast_unsigned());
     Called {
         reply: Reply::WideTwo(left, right),
-        held,
+        held: f.held,
     }
 }
 
@@ -362,11 +348,9 @@ fn fade_on_call(l: &[u8], bytes: &[u8], e: OpenBox) -> Called
     if e.is_present() {
         let envelope = spec_at(l, 5);
         let c = e.crossfade_sounding_on(bytes, wide_at(l, 1), wide_at(l, 3), envelope);
-        let outcome = c.outcome;
-        let held = c.held;
         return Called {
-            reply: outcome_reply(outcome),
-            held,
+            reply: outcome_reply(c.outcome),
+            held: c.held,
         };
     }
     Called {

@@ -1,24 +1,15 @@
 -- Cells as text, as a loop goes through them: what is left to write is what there was to write. Assumes nothing.
-use mathlib.Core.Path.{◌≡◌, sym, ap, ◌∙◌}
+use mathlib.Core.Path.{◌≡◌, sym}
 use mathlib.Core.List.{List, [], ◌∷◌, ◌++◌}
-use Prim.Native.Nat.{ℕ, ◌+◌, ◌*◌, ◌^◌, ◌≤◌, ◌<◌}
+use Prim.Native.Nat.{ℕ, ◌+◌, ◌*◌, ◌≤◌, ◌<◌}
 use native.Mathlib.Nat.{add_comm, mul-zero, mul-suc}
 use native.Mathlib.Numerals.{add-one}
 use native.Mathlib.Omega.{arith}
 use lib.ListN.{length, get_or, drop, drop_of_length-le, length-append}
-use lib.IntN.{ℤ}
 use lib.Seq.{drop-cons}
-use mir.Syntax.{Width}
-use lib.Signed.{mag}
-use mir.Val.{hbits, to_z, of_z}
-use Rattle.hex_digits.specs.Hex.{hex_of, newline, Laid, Wrote}
-use Rattle.hex_digits.proofs.Bits.{back}
-use Rattle.hex_digits.proofs.Texts.{Left, left-turn, left_end, length-hex_of, shown, then, all}
+use Rattle.hex_digits.specs.Hex.{newline, Laid, Wrote}
+use Rattle.hex_digits.proofs.Texts.{Left, left-turn, left_end, length-hex_of, then, all}
 use Rattle.replay_cells.specs.Cells.{cells_text, numbered_text}
-
--- a signed value's bits: it stood in a local as bits
-pub bits-shown : (d : ℕ) (w : Width) (z : ℤ) {u at n : ℕ} {a b : List ℕ} → mag z < 2 ^ hbits w → u ≡ of_z w (to_z w (of_z w z)) → Laid a at (hex_of d u) b n → Laid a at (hex_of d (of_z w z)) b n
-bits-shown d w z f e t = shown d (e ∙ ap (λ (x : ℤ). of_z w x) (back w z f)) t
 
 module _ {A : Type 0} (text : A → List ℕ) where
   cells-one : (s : List A) (i : ℕ) (d : A) → i < length s → cells_text text (drop i s) ≡ text (get_or s i d) ++ cells_text text (drop (i + 1) s)

@@ -2,69 +2,66 @@
 // as the buffer goes.
 #![tactic(auto)]
 
-ghost use Rattle.std.specs.Prelude.{◌≡◌, ◌+◌};
+ghost use Rattle.std.specs.Prelude.{◌≡◌, ℕ, List};
 ghost use Rattle.hex_digits.specs.Hex.{Laid};
 ghost use Rattle.replay_cells.specs.Cells.{byte_text, wide_text, i8_text, i16_text, i32_text, numbered_text};
 
-use fixed::as_u8;
-use hex_digits::{end_line, put, unsigned16, unsigned32};
+use hex_digits::{end_line, put};
 
-pub fn put_u8s(out: &mut [u8; 262144], number: u64, digits: u8, cells: &[u8]) -> usize
-    ensures { Laid out.old 0 (numbered_text digits number byte_text cells.now) out.new result }
-{
-    let mut next = put(out, 0, number, digits);
-    let mut i = 0;
-    while i < cells.len() {
-        next = put(out, next, cells[i] as u64, 2);
-        i += 1;
-    }
-    end_line(out, next)
+// A number as a cell of a list: its digits from a place on. It gives the place after them.
+pub trait Cell: Copy {
+    ghost text: { Self → List ℕ };
+
+    fn put(self, out: &mut [u8; 262144], at: usize) -> usize
+        ensures { Laid out.old at (text self) out.new result };
 }
 
-pub fn put_u16s(out: &mut [u8; 262144], number: u64, digits: u8, cells: &[u16]) -> usize
-    ensures { Laid out.old 0 (numbered_text digits number wide_text cells.now) out.new result }
-{
-    let mut next = put(out, 0, number, digits);
-    let mut i = 0;
-    while i < cells.len() {
-        next = put(out, next, cells[i] as u64, 4);
-        i += 1;
+impl Cell for u8 {
+    ghost text = { byte_text };
+
+    fn put(self, out: &mut [u8; 262144], at: usize) -> usize {
+        put(out, at, u64::from(self), 2)
     }
-    end_line(out, next)
 }
 
-pub fn put_i8s(out: &mut [u8; 262144], number: u64, digits: u8, cells: &[i8]) -> usize
-    ensures { Laid out.old 0 (numbered_text digits number i8_text cells.now) out.new result }
-{
-    let mut next = put(out, 0, number, digits);
-    let mut i = 0;
-    while i < cells.len() {
-        next = put(out, next, as_u8(cells[i]) as u64, 2);
-        i += 1;
+impl Cell for u16 {
+    ghost text = { wide_text };
+
+    fn put(self, out: &mut [u8; 262144], at: usize) -> usize {
+        put(out, at, u64::from(self), 4)
     }
-    end_line(out, next)
 }
 
-pub fn put_i16s(out: &mut [u8; 262144], number: u64, digits: u8, cells: &[i16]) -> usize
-    ensures { Laid out.old 0 (numbered_text digits number i16_text cells.now) out.new result }
-{
-    let mut next = put(out, 0, number, digits);
-    let mut i = 0;
-    while i < cells.len() {
-        next = put(out, next, unsigned16(cells[i]) as u64, 4);
-        i += 1;
+impl Cell for i8 {
+    ghost text = { i8_text };
+
+    fn put(self, out: &mut [u8; 262144], at: usize) -> usize {
+        put(out, at, u64::from(self.cast_unsigned()), 2)
     }
-    end_line(out, next)
 }
 
-pub fn put_i32s(out: &mut [u8; 262144], number: u64, digits: u8, cells: &[i32]) -> usize
-    ensures { Laid out.old 0 (numbered_text digits number i32_text cells.now) out.new result }
+impl Cell for i16 {
+    ghost text = { i16_text };
+
+    fn put(self, out: &mut [u8; 262144], at: usize) -> usize {
+        put(out, at, u64::from(self.cast_unsigned()), 4)
+    }
+}
+
+impl Cell for i32 {
+    ghost text = { i32_text };
+
+    fn put(self, out: &mut [u8; 262144], at: usize) -> usize {
+        put(out, at, u64::from(self.cast_unsigned()), 8)
+    }
+}
+
+pub fn put_cells<C: Cell>(out: &mut [u8; 262144], number: u64, digits: u8, cells: &[C]) -> usize
+    ensures { Laid out.old 0 (numbered_text digits number C.text cells.now) out.new result }
 {
     let mut next = put(out, 0, number, digits);
-    let mut i = 0;
-    while i < cells.len() {
-        next = put(out, next, unsigned32(cells[i]) as u64, 8);
-        i += 1;
+    for c in cells {
+        next = c.put(out, next);
     }
     end_line(out, next)
 }

@@ -1,11 +1,9 @@
 -- "dump: the engine's line, then a line for each of the N voices. Every field has 16 digits, negatives in two's complement at 64
 -- bits, a bool 0 or 1, floats by their 32 bits, nothing as −1 (FFFFFFFFFFFFFFFF; no bank is three of them), a choice as its number
 -- from 0". Assumes nothing.
-use Rattle.std.specs.Prelude.{ℕ, List, [], ◌∷◌, ◌++◌}
+use Rattle.std.specs.Prelude.{ℕ, List, [], ◌∷◌, ◌++◌, None, Option, Some}
 use Rattle.std.specs.Int.{w64}
 use Rattle.std.proofs.Common.{of_z}
-use Rattle.bank.specs.declared.BankSet.{BankSet}
-use Rattle.bank.specs.declared.BankSet.TheVariants as B
 use Rattle.mixer.specs.Mixers.{voices_of}
 use Rattle.mixer.specs.declared.Mixer.{Mixer}
 use Rattle.mixer.specs.declared.VoiceStealingPolicy.{VoiceStealingPolicy}
@@ -15,6 +13,7 @@ use Rattle.output.specs.declared.DutyMode.TheVariants as M
 use Rattle.voice.specs.declared.Voice.{Voice}
 use Rattle.hex_digits.specs.Hex.{four_of, newline}
 use Rattle.replay_fields.specs.States.{flag_number, voice_fields}
+use Rattle.bank.specs.declared.SoundBank.{SoundBank}
 
 -- "Policies: 0 LowestPriorityOldest, 1 FreeChannelOnly."
 abbrev pub policy_number : VoiceStealingPolicy → ℕ
@@ -31,17 +30,17 @@ mode_number M.SigmaDelta2ndOrder = 2
 abbrev pub nothing : ℕ
 nothing = 0xFFFF_FFFF_FFFF_FFFF
 
-abbrev pub bank_count : BankSet → ℕ
-bank_count B.None = nothing
-bank_count (B.Bank b) = b.effect_count
+abbrev pub bank_count : Option SoundBank → ℕ
+bank_count None = nothing
+bank_count (Some b) = b.effect_count
 
-abbrev pub bank_length : BankSet → ℕ
-bank_length B.None = nothing
-bank_length (B.Bank b) = b.len
+abbrev pub bank_length : Option SoundBank → ℕ
+bank_length None = nothing
+bank_length (Some b) = b.len
 
-abbrev pub bank_rate : BankSet → ℕ
-bank_rate B.None = nothing
-bank_rate (B.Bank b) = b.sample_rate_hz
+abbrev pub bank_rate : Option SoundBank → ℕ
+bank_rate None = nothing
+bank_rate (Some b) = b.sample_rate_hz
 
 -- "Engine: N, policy, the bank's count, length and rate; sample rate, period, duty mode,
 abbrev pub setting_fields : Mixer → List ℕ

@@ -6,8 +6,8 @@ ghost use Rattle.mixer.specs.Mixers.{Valid, voices_of};
 ghost use Rattle.hex_digits.specs.Hex.{Laid, Wrote};
 ghost use Rattle.replay_dump.specs.Dumps.{policy_number, mode_number, bank_count, bank_length, bank_rate, setting_fields, running_fields, voice_lines, dump_text};
 
-use bank::BankSet;
-use hex_digits::{end_line, put_four, unsigned64};
+use bank::SoundBank;
+use hex_digits::{end_line, put_four};
 use mixer::{Mixer, VoiceStealingPolicy};
 use output::DutyMode;
 use replay_fields::{flag_number, put_voice};
@@ -15,7 +15,7 @@ use replay_fields::{flag_number, put_voice};
 const NOTHING: u64 = 0xffff_ffff_ffff_ffff;
 
 // The fields of a bank.
-#[derive(Clone, Copy)]
+#[derive(Clone, Copy, Debug, PartialEq, Eq)]
 struct BankFields {
     count: u64,
     len: u64,
@@ -25,32 +25,25 @@ struct BankFields {
 pub fn policy_number(p: VoiceStealingPolicy) -> u64
     ensures { result ≡ policy_number p }
 {
-    match p {
-        VoiceStealingPolicy::LowestPriorityOldest => 0,
-        VoiceStealingPolicy::FreeChannelOnly => 1,
-    }
+    p as u64
 }
 
 pub fn mode_number(m: DutyMode) -> u64
     ensures { result ≡ mode_number m }
 {
-    match m {
-        DutyMode::Linear => 0,
-        DutyMode::SigmaDelta => 1,
-        DutyMode::SigmaDelta2ndOrder => 2,
-    }
+    m as u64
 }
 
-fn bank_fields(bank: BankSet) -> BankFields
+fn bank_fields(bank: Option<SoundBank>) -> BankFields
     ensures { (result.count ≡ bank_count bank) × (result.len ≡ bank_length bank) × (result.rate ≡ bank_rate bank) }
 {
     match bank {
-        BankSet::None => BankFields {
+        None => BankFields {
             count: NOTHING,
             len: NOTHING,
             rate: NOTHING,
         },
-        BankSet::Bank(b) => BankFields {
+        Some(b) => BankFields {
             count: b.effect_count() as u64,
             len: b.len() as u64,
             rate: b.sample_rate_hz() as u64,
@@ -62,16 +55,13 @@ fn bank_fields(bank: BankSet) -> BankFields
 fn put_settings(out: &mut [u8; 262144], m: Mixer) -> usize
     ensures { Laid out.old 0 (setting_fields m) out.new result × (result ≤ 128) }
 {
-    let policy = m.stealing_policy;
-    let set = m.bank;
-    let bank = bank_fields(set);
+    let bank = bank_fields(m.bank);
     let config = m.config;
-    let mode = config.duty_mode;
     let n = put_four(
         out,
         0,
         m.n as u64,
-        policy_number(policy),
+        policy_number(m.stealing_policy),
         bank.count,
         bank.len,
     );
@@ -81,7 +71,7 @@ fn put_settings(out: &mut [u8; 262144], m: Mixer) -> usize
         bank.rate,
         config.sample_rate_hz as u64,
         config.pwm_period as u64,
-        mode_number(mode),
+        mode_number(config.duty_mode),
     )
 }
 
@@ -89,19 +79,16 @@ fn put_settings(out: &mut [u8; 262144], m: Mixer) -> usize
 fn put_running(out: &mut [u8; 262144], at: usize, m: Mixer) -> usize
     ensures { Laid out.old at (running_fields m) out.new result × (result ≤ at + 128) }
 {
-    let config = m.config;
     let mapper = m.mapper;
-    let mode = mapper.mode;
-    let first = mapper.sigma_delta;
     let second = mapper.sigma_delta_2nd;
-    let sum = unsigned64(first.integrator);
-    let e1 = unsigned64(second.e1());
-    let e2 = unsigned64(second.e2());
+    let sum = i64::from(mapper.sigma_delta.integrator).cast_unsigned();
+    let e1 = i64::from(second.e1()).cast_unsigned();
+    let e2 = i64::from(second.e2()).cast_unsigned();
     let n = put_four(
         out,
         at,
-        config.master_gain_q8 as u64,
-        mode_number(mode),
+        m.config.master_gain_q8 as u64,
+        mode_number(mapper.mode),
         sum,
         e1,
     );
@@ -119,11 +106,9 @@ fn put_voices(out: &mut [u8; 262144], at: usize, m: Mixer) -> usize
     requires { Valid m }
     ensures { Laid out.old at (voice_lines (voices_of m)) out.new result × (result ≤ at + 337 * 16) }
 {
-    let n = m.n;
     let mut next = at;
-    for i in 0..n {
-        let v = m.voices[i];
-        let end = put_voice(out, next, v);
+    for i in 0..m.n {
+        let end = put_voice(out, next, m.voices[i]);
         next = end_line(out, end);
     }
     next

@@ -24,7 +24,7 @@ use voice::{Voice, VoiceSource};
 pub fn spec_at(l: &[u8], k: u16) -> AdsrSpec
     ensures { result ≡ spec_at l.now k }
 {
-    let at = k as usize;
+    let at = usize::from(k);
     AdsrSpec {
         attack_ms: wide_at(l, at),
         decay_ms: wide_at(l, at + 2),
@@ -33,6 +33,8 @@ pub fn spec_at(l: &[u8], k: u16) -> AdsrSpec
     }
 }
 
+// Total, as the records are read: a number above the last is the last one. So no `TryFrom`, which would refuse it.
+#[tactic(auto, using(std::proofs::lemmas::Bool::Decides::nat_tests))]
 pub fn mode_of(n: u8) -> DutyMode
     ensures { result ≡ mode_of n }
 {
@@ -43,6 +45,7 @@ pub fn mode_of(n: u8) -> DutyMode
     }
 }
 
+#[tactic(auto, using(std::proofs::lemmas::Bool::Decides::nat_tests))]
 pub fn tone_waveform(n: u8) -> Waveform
     ensures { result ≡ tone_waveform n }
 {
@@ -53,6 +56,7 @@ pub fn tone_waveform(n: u8) -> Waveform
     }
 }
 
+#[tactic(auto, using(std::proofs::lemmas::Bool::Decides::nat_tests))]
 pub fn polyblep_waveform(n: u8) -> PolyBlepWaveform
     ensures { result ≡ poly_blep_waveform n }
 {
@@ -67,61 +71,44 @@ pub fn polyblep_waveform(n: u8) -> PolyBlepWaveform
 pub fn flag_number(b: bool) -> u64
     ensures { result ≡ flag_number b }
 {
-    if b { 1 } else { 0 }
+    u64::from(b)
 }
 
 fn tone_number(w: Waveform) -> u64
     ensures { result ≡ tone_number w }
 {
-    match w {
-        Waveform::Square => 0,
-        Waveform::Sine => 1,
-        Waveform::Triangle => 2,
-    }
+    w as u64
 }
 
 fn polyblep_number(w: PolyBlepWaveform) -> u64
     ensures { result ≡ poly_blep_number w }
 {
-    match w {
-        PolyBlepWaveform::Sine => 0,
-        PolyBlepWaveform::Sawtooth => 1,
-        PolyBlepWaveform::Square => 2,
-        PolyBlepWaveform::Triangle => 3,
-    }
+    w as u64
 }
 
 fn phase_number(p: AdsrPhase) -> u64
     ensures { result ≡ phase_number p }
 {
-    match p {
-        AdsrPhase::Attack => 0,
-        AdsrPhase::Decay => 1,
-        AdsrPhase::Sustain => 2,
-        AdsrPhase::Release => 3,
-        AdsrPhase::Idle => 4,
-    }
+    p as u64
 }
 
 fn bits_of(x: f32) -> u64
     requires { T (not (is_nan x)) }
     ensures { result ≡ to_bits binary32 x }
 {
-    let bits: u32 = f32::to_bits(x);
-    bits as u64
+    u64::from(x.to_bits())
 }
 
 fn put_tone(out: &mut [u8; 262144], at: usize, v: ToneVoice) -> usize
     ensures { Laid out.old at (tone_fields v) out.new result × (result ≤ at + 96) }
 {
-    let w = v.waveform;
     let n4 = put_four(
         out,
         at,
         1,
         v.phase as u64,
         v.phase_inc as u64,
-        tone_number(w),
+        tone_number(v.waveform),
     );
     let n5 = put(out, n4, v.samples_left as u64, 16);
     put(out, n5, flag_number(v.active), 16)
@@ -174,20 +161,18 @@ pub fn put_source(out: &mut [u8; 262144], at: usize, s: VoiceSource) -> usize
 pub fn put_adsr(out: &mut [u8; 262144], at: usize, a: Adsr) -> usize
     ensures { Laid out.old at (adsr_text a) out.new result × (result ≤ at + 144) }
 {
-    let s = a.spec;
-    let p = a.phase;
     let times = put_four(
         out,
         at,
-        s.attack_ms as u64,
-        s.decay_ms as u64,
-        s.sustain_q8 as u64,
-        s.release_ms as u64,
+        a.spec.attack_ms as u64,
+        a.spec.decay_ms as u64,
+        a.spec.sustain_q8 as u64,
+        a.spec.release_ms as u64,
     );
     let state = put_four(
         out,
         times,
-        phase_number(p),
+        phase_number(a.phase),
         a.level_q8 as u64,
         a.samples_in_phase as u64,
         a.phase_length_samples as u64,
@@ -199,13 +184,10 @@ pub fn put_voice(out: &mut [u8; 262144], at: usize, v: Voice) -> usize
     requires { Valid v }
     ensures { Laid out.old at (voice_fields v) out.new result × (result ≤ at + 336) }
 {
-    let s = v.source;
-    let a = v.adsr;
+    let n1 = put_source(out, at, v.source);
+    let n2 = put_adsr(out, n1, v.adsr);
     let gain = v.gain_q8 as u64;
     let priority = v.priority as u64;
     let pan = v.pan_q8 as u64;
-    let rate = v.sample_rate_hz as u64;
-    let n1 = put_source(out, at, s);
-    let n2 = put_adsr(out, n1, a);
-    put_four(out, n2, gain, priority, pan, rate)
+    put_four(out, n2, gain, priority, pan, v.sample_rate_hz as u64)
 }

@@ -10,7 +10,7 @@ ghost use Rattle.replay_fills.specs.Fills.{blank_u8, blank_u16, blank_i8, blank_
 
 use buffers::{Level, Shape};
 use replay_box::OpenBox;
-use replay_cells::{put_i8s, put_i16s, put_i32s, put_u8s, put_u16s};
+use replay_cells::put_cells;
 
 // How long the answer is, and the box after the fill.
 #[derive(Clone, Copy)]
@@ -57,9 +57,8 @@ fn i8s(bytes: &[u8], e: OpenBox, shape: Shape, n: usize, out: &mut [u8; 262144])
 {
     let mut cells = blank_i8s();
     let f = e.fill_i8(bytes, shape, &mut cells[..n]);
-    let held = f.held;
-    let len = put_i8s(out, f.filled as u64, 4, &cells[..n]);
-    Shown { len, held }
+    let len = put_cells(out, f.filled as u64, 4, &cells[..n]);
+    Shown { len, held: f.held }
 }
 
 fn i16s(bytes: &[u8], e: OpenBox, shape: Shape, n: usize, out: &mut [u8; 262144]) -> Shown
@@ -69,9 +68,8 @@ fn i16s(bytes: &[u8], e: OpenBox, shape: Shape, n: usize, out: &mut [u8; 262144]
 {
     let mut cells = blank_i16s();
     let f = e.fill_i16(bytes, shape, &mut cells[..n]);
-    let held = f.held;
-    let len = put_i16s(out, f.filled as u64, 4, &cells[..n]);
-    Shown { len, held }
+    let len = put_cells(out, f.filled as u64, 4, &cells[..n]);
+    Shown { len, held: f.held }
 }
 
 fn i32s(bytes: &[u8], e: OpenBox, shape: Shape, n: usize, out: &mut [u8; 262144]) -> Shown
@@ -81,9 +79,8 @@ fn i32s(bytes: &[u8], e: OpenBox, shape: Shape, n: usize, out: &mut [u8; 262144]
 {
     let mut cells = blank_i32s();
     let f = e.fill_i32(bytes, shape, &mut cells[..n]);
-    let held = f.held;
-    let len = put_i32s(out, f.filled as u64, 4, &cells[..n]);
-    Shown { len, held }
+    let len = put_cells(out, f.filled as u64, 4, &cells[..n]);
+    Shown { len, held: f.held }
 }
 
 fn u8s(bytes: &[u8], e: OpenBox, shape: Shape, n: usize, out: &mut [u8; 262144]) -> Shown
@@ -93,9 +90,8 @@ fn u8s(bytes: &[u8], e: OpenBox, shape: Shape, n: usize, out: &mut [u8; 262144])
 {
     let mut cells = blank_u8s();
     let f = e.fill_u8(bytes, shape, &mut cells[..n]);
-    let held = f.held;
-    let len = put_u8s(out, f.filled as u64, 4, &cells[..n]);
-    Shown { len, held }
+    let len = put_cells(out, f.filled as u64, 4, &cells[..n]);
+    Shown { len, held: f.held }
 }
 
 fn u16s(bytes: &[u8], e: OpenBox, level: Level, n: usize, out: &mut [u8; 262144]) -> Shown
@@ -105,9 +101,8 @@ fn u16s(bytes: &[u8], e: OpenBox, level: Level, n: usize, out: &mut [u8; 262144]
 {
     let mut cells = blank_u16s();
     let f = e.fill_u16(bytes, level, &mut cells[..n]);
-    let held = f.held;
-    let len = put_u16s(out, f.filled as u64, 4, &cells[..n]);
-    Shown { len, held }
+    let len = put_cells(out, f.filled as u64, 4, &cells[..n]);
+    Shown { len, held: f.held }
 }
 
 // By the code of the record, one of 20 to 2A.
@@ -131,16 +126,10 @@ fn fill_few(code: u8, bytes: &[u8], e: OpenBox, n: usize, out: &mut [u8; 262144]
     }
 }
 
-fn at_most_2048(n: usize) -> usize
-    ensures { (result ≡ min n 2048) × (result ≤ 2048) }
-{
-    if n < 2048 { n } else { 2048 }
-}
-
 // No record asks for more than 2,048 cells; of a larger number, so many are filled.
 pub fn fill(code: u8, bytes: &[u8], e: OpenBox, n: usize, out: &mut [u8; 262144]) -> Shown
     requires { ValidBox e }
     ensures { Shows (fill_for code (min n 2048) bytes.now e) out.old out.new result }
 {
-    fill_few(code, bytes, e, at_most_2048(n), out)
+    fill_few(code, bytes, e, n.min(2048), out)
 }

@@ -10,13 +10,11 @@ use Rattle.fixed.specs.Fixed.{increment, index_of, fraction_of, sine, toward, ga
 use Rattle.fixed.specs.Decibels.{gain_of_db, db_of_gain}
 use Rattle.output.specs.Levels.{limited_bus, raised}
 use Rattle.output.specs.Duty.{duty, period_read}
-use Rattle.output.specs.declared.Period.{Period}
 use Rattle.config.specs.Config.{fade_step}
 use Rattle.lengths.specs.Lengths.{length_of, carrying}
 use Rattle.lengths.specs.declared.Length.{Length}
 use Rattle.tier.specs.Kinds.{kind_of, byte_of}
-use Rattle.tier.specs.declared.KindRead.{KindRead}
-use Rattle.tier.specs.declared.KindRead.TheVariants.{Kind, Unknown}
+use Rattle.tier.specs.declared.EffectKind.{EffectKind}
 use Rattle.hex_digits.specs.Hex.{all_digits, byte_at, wide_at, long_at}
 use Rattle.replay_leaves.specs.declared.Reply.{Reply}
 use Rattle.replay_leaves.specs.declared.Reply.TheVariants.{Bad, Word, Levels, State, Duties, Source, Voice, Restored, Pattern, Recording, Bank, Counts}
@@ -61,8 +59,8 @@ unfoldable pub sine_reply : List ℕ → Reply
 sine_reply l = Word (of_z w8 (sine (byte_at l 1))) 2
 
 -- 46, duty of a sample: "sample i8 (1), period (2) | number, then 4 digits"
-abbrev pub duty_answer : ℤ → Told Period → Reply
-duty_answer s t = numbered 4 (and_then t (λ p. value (duty s p.counts)))
+abbrev pub duty_answer : ℤ → Told ℕ → Reply
+duty_answer s t = numbered 4 (and_then t (λ p. value (duty s p)))
 
 unfoldable pub duty_reply : List ℕ → Reply
 duty_reply l = duty_answer (sample_at l 1) (period_read (wide_at l 2))
@@ -92,9 +90,8 @@ unfoldable pub clamp_reply : List ℕ → Reply
 clamp_reply l = Word (of_z w8 (held_to (neg 128) (pos 127) (sum_at l 1))) 2
 
 -- 55, kind byte: "kind (1) | number (9 above 5), then the kind's byte (00 where refused)"
-abbrev pub kind_answer : KindRead → Reply
-kind_answer (Kind k) = numbered 2 (value (byte_of k))
-kind_answer Unknown = numbered 2 (refused 9)
+abbrev pub kind_answer : Told EffectKind → Reply
+kind_answer t = numbered 2 (and_then t (λ k. value (byte_of k)))
 
 unfoldable pub kind_reply : List ℕ → Reply
 kind_reply l = kind_answer (kind_of (byte_at l 1))

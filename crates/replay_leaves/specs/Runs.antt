@@ -3,12 +3,12 @@ use Rattle.std.specs.Prelude.{ℕ, zero, suc, ◌+◌, ◌-◌, ◌/◌, List, [
 use Rattle.std.specs.Int.{w32}
 use Rattle.std.proofs.Common.{of_z}
 use Rattle.error.specs.Told.{Told, value, refused}
-use Rattle.envelope.specs.Alone.{opened, triggered_envelope, released_envelope, ticked_envelope}
-use Rattle.envelope.specs.declared.Envelope.{Envelope}
+use Rattle.envelope.specs.Adsrs.{triggered, released, ticked}
+use Rattle.envelope.specs.Alone.{opened}
+use Rattle.envelope.specs.declared.Adsr.{Adsr}
 use Rattle.output.specs.Shapers.{fresh2nd_order}
 use Rattle.output.specs.Duty.{period_read, mapped}
 use Rattle.output.specs.declared.Mapped.{Mapped}
-use Rattle.output.specs.declared.Period.{Period}
 use Rattle.output.specs.declared.PwmMapper.{PwmMapper}
 use Rattle.hex_digits.specs.Hex.{byte_at, wide_at, long_at, hex_of, newline}
 use Rattle.replay_fields.specs.Read.{spec_at, mode_of}
@@ -30,30 +30,30 @@ abbrev pub number_line : ℕ → List ℕ
 number_line n = hex_of 2 n ++ newline
 
 -- E, then the rate (4)
-abbrev pub opened_at : List ℕ → Told Envelope
+abbrev pub opened_at : List ℕ → Told Adsr
 opened_at l = opened (spec_at l 1) (long_at l 8)
 
-abbrev pub level_text : Envelope → List ℕ
-level_text e = hex_of 2 e.adsr.level_q8
+abbrev pub level_text : Adsr → List ℕ
+level_text e = hex_of 2 e.level_q8
 
 -- the envelope e triggered and ticked so often, and then released
-abbrev pub let_go : ℕ → Envelope → Envelope
-let_go held e = released_envelope (stepped ticked_envelope held (triggered_envelope e))
+abbrev pub let_go : ℕ → Adsr → Adsr
+let_go held e = released (stepped ticked held (triggered e))
 
 -- 48, envelope alone: "ticks before release (2), ticks after (2) | number; if 00, a second line with the levels after each
 -- tick, 2 digits each, .. the release standing between"
-abbrev pub levels_of : ℕ → ℕ → Told Envelope → List ℕ
+abbrev pub levels_of : ℕ → ℕ → Told Adsr → List ℕ
 levels_of held left (refused n) = number_line n
 levels_of held left (value e) =
-    number_line 0 ++ texts ticked_envelope level_text held (triggered_envelope e) ++ texts ticked_envelope level_text left (let_go held e) ++ newline
+    number_line 0 ++ texts ticked level_text held (triggered e) ++ texts ticked level_text left (let_go held e) ++ newline
 
 unfoldable pub levels_text : List ℕ → List ℕ
 levels_text l = levels_of (wide_at l 12) (wide_at l 14) (opened_at l)
 
 -- 58, envelope state: "number; if 00, a second line: the state after trigger, the ticks, release and the ticks after"
-abbrev pub state_of : ℕ → ℕ → Told Envelope → List ℕ
+abbrev pub state_of : ℕ → ℕ → Told Adsr → List ℕ
 state_of held left (refused n) = number_line n
-state_of held left (value e) = number_line 0 ++ adsr_text (stepped ticked_envelope left (let_go held e)).adsr ++ newline
+state_of held left (value e) = number_line 0 ++ adsr_text (stepped ticked left (let_go held e)) ++ newline
 
 unfoldable pub state_text : List ℕ → List ℕ
 state_text l = state_of (wide_at l 12) (wide_at l 14) (opened_at l)
@@ -86,10 +86,10 @@ mapper_line m =
     ++ newline
 
 -- 57, duty mapper: "number (period below 2 is 3); if 00, a second line: each sample's duty (4 digits), then .."
-abbrev pub duties_of : List ℕ → ℕ → Told Period → List ℕ
+abbrev pub duties_of : List ℕ → ℕ → Told ℕ → List ℕ
 duties_of l n (refused m) = number_line m
 duties_of l n (value p) =
-    let step = map_step l p.counts in
+    let step = map_step l p in
     number_line 0 ++ texts step duty_text n (first_at l) ++ mapper_line (stepped step n (first_at l)).1.mapper
 
 unfoldable pub duties_text : List ℕ → List ℕ

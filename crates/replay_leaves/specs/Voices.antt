@@ -1,16 +1,12 @@
 -- A voice alone (61): how it starts, its frames, and the fields of its state. Assumes nothing.
-use Rattle.std.specs.Prelude.{ℕ, cond, List, ◌++◌, leb, eqb}
+use Rattle.std.specs.Prelude.{ℕ, cond, List, ◌++◌, leb, eqb, None, Option, Some, ℤ}
 use Rattle.std.specs.Int.{w8}
 use Rattle.std.proofs.Common.{of_z}
 use Rattle.error.specs.Numbers.{number_of}
 use Rattle.error.specs.declared.AudioError.TheVariants as E
-use Rattle.fixed.specs.declared.Given.TheVariants as G
+use Rattle.fixed.specs.declared.Step.{Step}
 use Rattle.voice.specs.Voices.{silent_voice, sounding, with_gain, with_pan, triggered_voice, released_voice, audible, ticked_voice, stepped_voice, stereo_step}
 use Rattle.voice.specs.declared.Voice.{Voice}
-use Rattle.voice.specs.declared.VoiceStep.{VoiceStep}
-use Rattle.voice.specs.declared.StereoGiven.{StereoGiven}
-use Rattle.voice.specs.declared.StereoGiven.TheVariants as P
-use Rattle.voice.specs.declared.StereoStep.{StereoStep}
 use Rattle.hex_digits.specs.Hex.{byte_at, three_at, long_at, hex_of, newline}
 use Rattle.replay_fields.specs.Read.{spec_at}
 use Rattle.replay_leaves.specs.Runs.{stepped, texts, number_line}
@@ -25,10 +21,10 @@ voice_at l =
     triggered_voice (with_pan (with_gain started (byte_at l 20)) (byte_at l 21)) (spec_at l 13)
 
 -- "A frame ticks the envelope and requests a sample"
-abbrev pub mono_frame : VoiceStep → VoiceStep
+abbrev pub mono_frame : Step Voice (Option ℤ) → Step Voice (Option ℤ)
 mono_frame s = stepped_voice (ticked_voice s.voice)
 
-abbrev pub stereo_frame : StereoStep → StereoStep
+abbrev pub stereo_frame : Step Voice (Option (ℤ × ℤ)) → Step Voice (Option (ℤ × ℤ))
 stereo_frame s = stereo_step (ticked_voice s.voice)
 
 -- a frame that is not printed, "in mono": what it leaves of the voice
@@ -36,11 +32,11 @@ abbrev pub passed_frame : Voice → Voice
 passed_frame v = (stepped_voice (ticked_voice v)).voice
 
 -- before the first printed frame
-abbrev pub no_frame : Voice → VoiceStep
-no_frame v = record { voice = v; given = G.None }
+abbrev pub no_frame : Voice → Step Voice (Option ℤ)
+no_frame v = record { voice = v; given = None }
 
-abbrev pub no_pair : Voice → StereoStep
-no_pair v = record { voice = v; given = P.None }
+abbrev pub no_pair : Voice → Step Voice (Option (ℤ × ℤ))
+no_pair v = record { voice = v; given = None }
 
 -- "The release, if any, stands between the frames not printed and those printed"
 abbrev pub let_go_if : ℕ → Voice → Voice
@@ -50,21 +46,21 @@ unfoldable pub held_at : List ℕ → Voice
 held_at l = let_go_if (byte_at l 26) (stepped passed_frame (three_at l 23) (voice_at l))
 
 -- "each printed frame as 00 and the sample, in stereo left and right, or 0100 (010000) where none is given"
-abbrev pub frame_text : VoiceStep → List ℕ
+abbrev pub frame_text : Step Voice (Option ℤ) → List ℕ
 frame_text s = hex_of 4 (given_number s.given)
 
-abbrev pub left_number : StereoGiven → ℕ
-left_number (P.Pair left right) = of_z w8 left
-left_number P.None = 0x100
+abbrev pub left_number : Option (ℤ × ℤ) → ℕ
+left_number (Some (left, right)) = of_z w8 left
+left_number None = 0x100
 
-abbrev pub right_number : StereoGiven → ℕ
-right_number (P.Pair left right) = of_z w8 right
-right_number P.None = 0
+abbrev pub right_number : Option (ℤ × ℤ) → ℕ
+right_number (Some (left, right)) = of_z w8 right
+right_number None = 0
 
-abbrev pub pair_of : StereoGiven → List ℕ
+abbrev pub pair_of : Option (ℤ × ℤ) → List ℕ
 pair_of g = hex_of 4 (left_number g) ++ hex_of 2 (right_number g)
 
-abbrev pub pair_text : StereoStep → List ℕ
+abbrev pub pair_text : Step Voice (Option (ℤ × ℤ)) → List ℕ
 pair_text s = pair_of s.given
 
 -- n printed frames of v and the voice after them, in stereo where it is 1

@@ -3,10 +3,11 @@ ghost use Rattle.std.specs.Prelude.{◌≡◌};
 ghost use Rattle.replay_leaves.specs.Replies.{gain_reply, lerp_reply, pan_reply, increment_reply, sine_reply, to_gain_reply, to_decibels_reply, phase_reply, crossfade_reply, clamp_reply, kind_reply};
 
 use crate::Reply;
-use hex_digits::{byte_at, long_at, signed32};
-use tier::{EffectKind, KindRead};
+use hex_digits::{byte_at, long_at};
+use tier::EffectKind;
 
 // By document 01's rule, or by the present one.
+#[tactic(auto, unfolding(crate::specs::Replies::gain_reply))]
 pub(crate) fn gain(l: &[u8], present: bool) -> Reply
     ensures { result ≡ gain_reply present l.now }
 {
@@ -18,6 +19,7 @@ pub(crate) fn gain(l: &[u8], present: bool) -> Reply
     }
 }
 
+#[tactic(auto, unfolding(crate::specs::Replies::lerp_reply))]
 pub(crate) fn lerp(l: &[u8]) -> Reply
     ensures { result ≡ lerp_reply l.now }
 {
@@ -30,6 +32,7 @@ pub(crate) fn lerp(l: &[u8]) -> Reply
     }
 }
 
+#[tactic(auto, unfolding(crate::specs::Replies::pan_reply))]
 pub(crate) fn pan_gains(l: &[u8]) -> Reply
     ensures { result ≡ pan_reply l.now }
 {
@@ -40,6 +43,7 @@ pub(crate) fn pan_gains(l: &[u8]) -> Reply
     }
 }
 
+#[tactic(auto, unfolding(crate::specs::Replies::increment_reply))]
 pub(crate) fn phase_increment(l: &[u8]) -> Reply
     ensures { result ≡ increment_reply l.now }
 {
@@ -50,6 +54,7 @@ pub(crate) fn phase_increment(l: &[u8]) -> Reply
     }
 }
 
+#[tactic(auto, unfolding(crate::specs::Replies::sine_reply))]
 pub(crate) fn sine(l: &[u8]) -> Reply
     ensures { result ≡ sine_reply l.now }
 {
@@ -60,6 +65,7 @@ pub(crate) fn sine(l: &[u8]) -> Reply
     }
 }
 
+#[tactic(auto, unfolding(crate::specs::Replies::to_gain_reply))]
 pub(crate) fn decibels_to_gain(l: &[u8]) -> Reply
     ensures { result ≡ to_gain_reply l.now }
 {
@@ -73,14 +79,14 @@ pub(crate) fn decibels_to_gain(l: &[u8]) -> Reply
 pub(crate) fn gain_to_decibels(l: &[u8]) -> Reply
     ensures { result ≡ to_decibels_reply l.now }
 {
-    let decibels = fixed::q8_to_db(byte_at(l, 1));
-    let value: u32 = f32::to_bits(decibels);
+    let value = fixed::q8_to_db(byte_at(l, 1)).to_bits();
     Reply::Word {
         value: value as u64,
         digits: 8,
     }
 }
 
+#[tactic(auto, unfolding(crate::specs::Replies::phase_reply))]
 pub(crate) fn phase(l: &[u8]) -> Reply
     ensures { result ≡ phase_reply l.now }
 {
@@ -93,6 +99,7 @@ pub(crate) fn phase(l: &[u8]) -> Reply
     }
 }
 
+#[tactic(auto, unfolding(crate::specs::Replies::crossfade_reply))]
 pub(crate) fn crossfade(l: &[u8]) -> Reply
     ensures { result ≡ crossfade_reply l.now }
 {
@@ -105,27 +112,28 @@ pub(crate) fn crossfade(l: &[u8]) -> Reply
     }
 }
 
+#[tactic(auto, unfolding(crate::specs::Replies::clamp_reply))]
 pub(crate) fn clamp(l: &[u8]) -> Reply
     ensures { result ≡ clamp_reply l.now }
 {
-    let value = fixed::as_u8(fixed::clamp_sample(signed32(long_at(l, 1))));
+    let value = fixed::as_u8(fixed::clamp_sample(long_at(l, 1).cast_signed()));
     Reply::Word {
         value: value as u64,
         digits: 2,
     }
 }
 
+#[tactic(auto, unfolding(crate::specs::Replies::kind_reply))]
 pub(crate) fn kind(l: &[u8]) -> Reply
     ensures { result ≡ kind_reply l.now }
 {
-    let read = EffectKind::from_u8(byte_at(l, 1));
-    match read {
-        KindRead::Kind(k) => Reply::Word {
-            value: k.as_u8() as u64,
+    match EffectKind::try_from(byte_at(l, 1)) {
+        Ok(k) => Reply::Word {
+            value: u64::from(u8::from(k)),
             digits: 4,
         },
-        KindRead::Unknown => Reply::Word {
-            value: 0x900,
+        Err(e) => Reply::Word {
+            value: u64::from(u8::from(e)) * 256,
             digits: 4,
         },
     }

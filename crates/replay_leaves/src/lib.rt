@@ -15,7 +15,7 @@ mod sounds;
 mod voices;
 
 // What is answered to a line: that it is bad, a number in so many digits, or one of the runs.
-#[derive(Clone, Copy)]
+#[derive(Clone, Copy, Debug, PartialEq, Eq)]
 pub enum Reply {
     Bad,
     Word { value: u64, digits: u8 },
@@ -32,17 +32,18 @@ pub enum Reply {
 }
 
 // How many bytes the answer has, and whether the run goes on.
-#[derive(Clone, Copy)]
+#[derive(Clone, Copy, Debug, PartialEq, Eq)]
 pub struct Answered {
     pub len: usize,
     pub more: bool,
 }
 
 // A record of another length is bad.
+#[tactic(auto, using(std::proofs::lemmas::Bool::Decides::nat_tests))]
 fn sized(digits: usize, bytes: u8, r: Reply) -> Reply
     ensures { result ≡ sized digits bytes r }
 {
-    if digits == 2 + 2 * (bytes as usize) {
+    if digits == 2 + 2 * usize::from(bytes) {
         r
     } else {
         Reply::Bad
@@ -50,6 +51,7 @@ fn sized(digits: usize, bytes: u8, r: Reply) -> Reply
 }
 
 // 57 has any number of samples, and three modes.
+#[tactic(auto, using(std::proofs::lemmas::Bool::Decides::nat_tests), unfolding(crate::specs::Replies::duties_reply))]
 fn duties_reply(l: &[u8]) -> Reply
     ensures { result ≡ duties_reply l.now }
 {
@@ -68,6 +70,7 @@ fn duties_reply(l: &[u8]) -> Reply
 }
 
 // 80 has at most 2,048 samples.
+#[tactic(auto, using(std::proofs::lemmas::Bool::Decides::nat_tests), unfolding(crate::specs::Replies::pattern_reply))]
 fn pattern_reply(l: &[u8]) -> Reply
     ensures { result ≡ pattern_reply l.now }
 {
@@ -79,6 +82,7 @@ fn pattern_reply(l: &[u8]) -> Reply
 }
 
 // 81 has any number of bytes.
+#[tactic(auto, using(std::proofs::lemmas::Bool::Decides::nat_tests), unfolding(crate::specs::Replies::recording_reply))]
 fn recording_reply(l: &[u8]) -> Reply
     ensures { result ≡ recording_reply l.now }
 {
@@ -93,11 +97,12 @@ fn recording_reply(l: &[u8]) -> Reply
 }
 
 // 83 has as many entries as it says, and any number of bytes of payloads.
+#[tactic(auto, using(std::proofs::lemmas::Bool::Decides::nat_tests), unfolding(crate::specs::Replies::bank_reply))]
 fn bank_reply(l: &[u8]) -> Reply
     ensures { result ≡ bank_reply l.now }
 {
     let n = l.len();
-    if n < 28 + 26 * (byte_at(l, 13) as usize) {
+    if n < 28 + 26 * usize::from(byte_at(l, 13)) {
         return Reply::Bad;
     }
     if n % 2 == 1 {
@@ -169,6 +174,7 @@ fn reply_for(code: u8, l: &[u8]) -> Reply
     }
 }
 
+#[tactic(auto, using(std::proofs::lemmas::Bool::Decides::nat_tests), unfolding(crate::specs::Replies::reply_of))]
 fn reply_of(l: &[u8]) -> Reply
     ensures { result ≡ reply_of l.now }
 {
@@ -182,63 +188,26 @@ fn reply_of(l: &[u8]) -> Reply
     }
 }
 
-// Lent as a slice, a buffer tells the proof its length, which its type fixes.
-fn whole(out: &[u8]) {}
-
 // Writes the answer at the front of the buffer, which is as long as the longest answer.
 pub fn answer(line: &[u8], out: &mut [u8; 262144]) -> Answered
     ensures { Answers line.now out.old out.new result }
 {
-    whole(&*out);
-    let reply = reply_of(line);
-    match reply {
+    let len = match reply_of(line) {
         Reply::Bad => {
             let len = put_line(out, 0xffff, 4);
-            Answered { len, more: false }
+            return Answered { len, more: false };
         }
-        Reply::Word { value, digits } => {
-            let len = put_line(out, value, digits);
-            Answered { len, more: true }
-        }
-        Reply::Levels => {
-            let len = runs::levels(line, out);
-            Answered { len, more: true }
-        }
-        Reply::State => {
-            let len = runs::state(line, out);
-            Answered { len, more: true }
-        }
-        Reply::Duties => {
-            let len = runs::duties(line, out);
-            Answered { len, more: true }
-        }
-        Reply::Source => {
-            let len = sounds::source(line, out);
-            Answered { len, more: true }
-        }
-        Reply::Voice => {
-            let len = voices::voice(line, out);
-            Answered { len, more: true }
-        }
-        Reply::Restored => {
-            let len = sounds::restored(line, out);
-            Answered { len, more: true }
-        }
-        Reply::Pattern => {
-            let len = replay_patterns::pattern(line, out);
-            Answered { len, more: true }
-        }
-        Reply::Recording => {
-            let len = replay_patterns::reader(line, out);
-            Answered { len, more: true }
-        }
-        Reply::Bank => {
-            let len = replay_banks::bank(line, out);
-            Answered { len, more: true }
-        }
-        Reply::Counts => {
-            let len = planning::counts(line, out);
-            Answered { len, more: true }
-        }
-    }
+        Reply::Word { value, digits } => put_line(out, value, digits),
+        Reply::Levels => runs::levels(line, out),
+        Reply::State => runs::state(line, out),
+        Reply::Duties => runs::duties(line, out),
+        Reply::Source => sounds::source(line, out),
+        Reply::Voice => voices::voice(line, out),
+        Reply::Restored => sounds::restored(line, out),
+        Reply::Pattern => replay_patterns::pattern(line, out),
+        Reply::Recording => replay_patterns::reader(line, out),
+        Reply::Bank => replay_banks::bank(line, out),
+        Reply::Counts => planning::counts(line, out),
+    };
+    Answered { len, more: true }
 }

@@ -1,46 +1,48 @@
 // The records of one number each that may be refused, and the conversions.
 ghost use Rattle.std.specs.Prelude.{◌≡◌};
-ghost use Rattle.lengths.specs.Lengths.{told_length};
+ghost use Rattle.error.specs.Told.{told};
 ghost use Rattle.replay_leaves.specs.Replies.{limiter_reply, duty_reply, fade_reply, conversions_reply, conversion32_reply, length_answer, length_reply, carrying_reply};
 
 use crate::Reply;
-use hex_digits::{byte_at, long_at, signed32, unsigned16, unsigned32, wide_at};
-use lengths::LengthRead;
-use output::{Limited, Period, PeriodRead};
+use error::AudioError;
+use hex_digits::{byte_at, long_at, wide_at};
+use lengths::Length;
+use output::Period;
 
+#[tactic(auto, unfolding(crate::specs::Replies::limiter_reply))]
 pub(crate) fn limiter(l: &[u8]) -> Reply
     ensures { result ≡ limiter_reply l.now }
 {
-    let limited = output::limit_bus(signed32(long_at(l, 1)));
-    match limited {
-        Limited::Sample(s) => Reply::Word {
+    match output::limit_bus(long_at(l, 1).cast_signed()) {
+        Ok(s) => Reply::Word {
             value: fixed::as_u8(s) as u64,
             digits: 4,
         },
-        Limited::Refused(e) => Reply::Word {
-            value: (e.number() as u64) * 256,
+        Err(e) => Reply::Word {
+            value: u64::from(u8::from(e)) * 256,
             digits: 4,
         },
     }
 }
 
+#[tactic(auto, unfolding(crate::specs::Replies::duty_reply))]
 pub(crate) fn duty(l: &[u8]) -> Reply
     ensures { result ≡ duty_reply l.now }
 {
     let sample = fixed::as_i8(byte_at(l, 1));
-    let period = Period::new(wide_at(l, 2));
-    match period {
-        PeriodRead::Accepted(p) => Reply::Word {
+    match Period::new(wide_at(l, 2)) {
+        Ok(p) => Reply::Word {
             value: output::pcm_to_duty(sample, p) as u64,
             digits: 6,
         },
-        PeriodRead::Refused(e) => Reply::Word {
-            value: (e.number() as u64) * 65536,
+        Err(e) => Reply::Word {
+            value: u64::from(u8::from(e)) * 65536,
             digits: 6,
         },
     }
 }
 
+#[tactic(auto, unfolding(crate::specs::Replies::fade_reply))]
 pub(crate) fn fade_step(l: &[u8]) -> Reply
     ensures { result ≡ fade_reply l.now }
 {
@@ -50,11 +52,12 @@ pub(crate) fn fade_step(l: &[u8]) -> Reply
     }
 }
 
+#[tactic(auto, unfolding(crate::specs::Replies::conversions_reply))]
 pub(crate) fn conversions(l: &[u8]) -> Reply
     ensures { result ≡ conversions_reply l.now }
 {
     let sample = fixed::as_i8(byte_at(l, 1));
-    let wide = unsigned16(output::pcm_to_i16(sample));
+    let wide = output::pcm_to_i16(sample).cast_unsigned();
     let d8 = output::pcm_to_dac_u8(sample);
     let d12 = output::pcm_to_dac_u12(sample);
     let d16 = output::pcm_to_dac_u16(sample);
@@ -64,10 +67,11 @@ pub(crate) fn conversions(l: &[u8]) -> Reply
     }
 }
 
+#[tactic(auto, unfolding(crate::specs::Replies::conversion32_reply))]
 pub(crate) fn conversion_to_i32(l: &[u8]) -> Reply
     ensures { result ≡ conversion32_reply l.now }
 {
-    let value = unsigned32(output::pcm_to_i32(fixed::as_i8(byte_at(l, 1))));
+    let value = output::pcm_to_i32(fixed::as_i8(byte_at(l, 1))).cast_unsigned();
     Reply::Word {
         value: value as u64,
         digits: 8,
@@ -75,27 +79,29 @@ pub(crate) fn conversion_to_i32(l: &[u8]) -> Reply
 }
 
 // Samples and remainder, or the refusal's number, in 14 digits.
-fn length_word(read: LengthRead) -> Reply
-    ensures { result ≡ length_answer (told_length read) }
+fn length_word(read: Result<Length, AudioError>) -> Reply
+    ensures { result ≡ length_answer (told read) }
 {
     match read {
-        LengthRead::Length(n) => Reply::Word {
+        Ok(n) => Reply::Word {
             value: (n.samples as u64) * 65536 + (n.remainder as u64),
             digits: 14,
         },
-        LengthRead::Refused(e) => Reply::Word {
-            value: (e.number() as u64) * 281474976710656,
+        Err(e) => Reply::Word {
+            value: u64::from(u8::from(e)) * 281474976710656,
             digits: 14,
         },
     }
 }
 
+#[tactic(auto, unfolding(crate::specs::Replies::length_reply))]
 pub(crate) fn length(l: &[u8]) -> Reply
     ensures { result ≡ length_reply l.now }
 {
     length_word(lengths::length_in_samples(wide_at(l, 1), long_at(l, 3)))
 }
 
+#[tactic(auto, unfolding(crate::specs::Replies::carrying_reply))]
 pub(crate) fn carrying(l: &[u8]) -> Reply
     ensures { result ≡ carrying_reply l.now }
 {

@@ -3,7 +3,6 @@ ghost use Rattle.std.specs.Prelude.{◌++◌};
 ghost use Rattle.hex_digits.specs.Hex.{hex_of, newline, Wrote};
 ghost use Rattle.replay_leaves.specs.Planning.{counts_text};
 
-use counts::CountsRead;
 use hex_digits::{byte_at, end_line, put};
 
 fn put_counts(out: &mut [u8; 262144], number: u8, refused: u32, accepted: u32) -> usize
@@ -16,12 +15,12 @@ fn put_counts(out: &mut [u8; 262144], number: u8, refused: u32, accepted: u32) -
 }
 
 // From the front of the buffer on.
+#[tactic(auto, unfolding(crate::specs::Planning::counts_text))]
 pub(crate) fn counts(l: &[u8], out: &mut [u8; 262144]) -> usize
     ensures { Wrote out.old 0 (counts_text l.now) out.new result }
 {
-    let read = counts::turned_away(byte_at(l, 1), byte_at(l, 2), byte_at(l, 3), byte_at(l, 4));
-    match read {
-        CountsRead::Counts(c) => put_counts(out, 0, c.refused, c.accepted),
-        CountsRead::Refused(e) => put_counts(out, e.number(), 0, 0),
+    match counts::turned_away(byte_at(l, 1), byte_at(l, 2), byte_at(l, 3), byte_at(l, 4)) {
+        Ok(c) => put_counts(out, 0, c.refused, c.accepted),
+        Err(e) => put_counts(out, u8::from(e), 0, 0),
     }
 }

@@ -6,22 +6,24 @@ ghost use Rattle.voice.specs.Sources.{ValidSource, ValidStep};
 ghost use Rattle.hex_digits.specs.Hex.{wide_at, Laid, Wrote};
 ghost use Rattle.replay_leaves.specs.Replies.{waveforms_of, source_reply, restored_reply};
 ghost use Rattle.replay_leaves.specs.Runs.{stepped, texts};
-ghost use Rattle.replay_leaves.specs.Sounds.{source_at, passed_over, request, given_number, given_text, carrier_number, source_run, source_text, requests_line, restored_at, restored_text};
+ghost use Rattle.replay_leaves.specs.Sounds.{source_at, passed_over, request, given_number, given_text, source_run, source_text, requests_line, restored_at, restored_text};
 
 use crate::Reply;
-use fixed::Given;
+use fixed::Step;
 use hex_digits::{byte_at, end_line, long_at, put, put_line, three_at, wide_at};
-use polyblep::{PolyBlepVoice, RestoredVoice};
+use polyblep::PolyBlepVoice;
 use replay_fields::{polyblep_waveform, put_source, tone_waveform};
-use voice::{Carrier, SourceStep, VoiceSource};
+use voice::VoiceSource;
 
 // A source after some requests, with what the last one gave, and the place after their texts.
-#[derive(Clone, Copy)]
+#[derive(Clone, Copy, Debug, PartialEq)]
 struct Requested {
-    last: SourceStep,
+    last: Step<VoiceSource, Option<i8>>,
     next: usize,
 }
 
+// The kind is a byte of the line, and an unknown one is read too: it has no waveform, and starts as FM. So no enum.
+#[tactic(auto, using(std::proofs::lemmas::Bool::Decides::nat_tests))]
 pub(crate) fn waveforms(kind: u8) -> u8
     ensures { result ≡ waveforms_of kind }
 {
@@ -33,6 +35,7 @@ pub(crate) fn waveforms(kind: u8) -> u8
     }
 }
 
+#[tactic(auto, using(std::proofs::lemmas::Bool::Decides::nat_tests), unfolding(crate::specs::Replies::source_reply))]
 pub(crate) fn source_reply(l: &[u8]) -> Reply
     ensures { result ≡ source_reply l.now }
 {
@@ -47,6 +50,7 @@ pub(crate) fn source_reply(l: &[u8]) -> Reply
     }
 }
 
+#[tactic(auto, using(std::proofs::lemmas::Bool::Decides::nat_tests), unfolding(crate::specs::Sounds::source_at))]
 pub(crate) fn source_at(l: &[u8]) -> VoiceSource
     ensures { Made ValidSource (source_at l.now) result }
 {
@@ -66,26 +70,13 @@ pub(crate) fn source_at(l: &[u8]) -> VoiceSource
 pub(crate) fn printed_at(l: &[u8], k: usize) -> u16
     ensures { (result ≡ min (wide_at l.now k) 16000) × (result ≤ 16000) }
 {
-    let n = wide_at(l, k);
-    if n <= 16000 { n } else { 16000 }
+    wide_at(l, k).min(16000)
 }
 
-pub(crate) fn given_number(g: Given) -> u64
+pub(crate) fn given_number(g: Option<i8>) -> u64
     ensures { result ≡ given_number g }
 {
-    match g {
-        Given::Sample(s) => fixed::as_u8(s) as u64,
-        Given::None => 256,
-    }
-}
-
-fn carrier_number(c: Carrier) -> u32
-    ensures { result ≡ carrier_number c }
-{
-    match c {
-        Carrier::Hz(hz) => hz,
-        Carrier::None => 0,
-    }
+    g.map_or(256, |s| u64::from(s.cast_unsigned()))
 }
 
 // Requests that are not printed.
@@ -94,17 +85,19 @@ fn skipped(first: VoiceSource, count: u32) -> VoiceSource
     ensures { Made ValidSource (stepped passed_over count first) result }
 {
     let mut source = first;
-    let mut left = count;
-    while left > 0 {
-        let step = source.next_raw_sample();
-        source = step.source;
-        left -= 1;
+    for _ in 0..count {
+        source = source.next_raw_sample().voice;
     }
     source
 }
 
 // Requests, each with what it gave.
-fn requests(out: &mut [u8; 262144], at: usize, first: SourceStep, count: u16) -> Requested
+fn requests(
+    out: &mut [u8; 262144],
+    at: usize,
+    first: Step<VoiceSource, Option<i8>>,
+    count: u16,
+) -> Requested
     requires { ValidStep first }
     ensures laid { Laid out.old at (texts request given_text count first) out.new result.next }
     ensures next_bound { result.next ≤ at + 4 * count }
@@ -112,13 +105,9 @@ fn requests(out: &mut [u8; 262144], at: usize, first: SourceStep, count: u16) ->
 {
     let mut last = first;
     let mut next = at;
-    let mut left = count;
-    while left > 0 {
-        let source = last.source;
-        last = source.next_raw_sample();
-        let g = last.given;
-        next = put(out, next, given_number(g), 4);
-        left -= 1;
+    for _ in 0..count {
+        last = last.voice.next_raw_sample();
+        next = put(out, next, given_number(last.given), 4);
     }
     Requested { last, next }
 }
@@ -128,19 +117,19 @@ fn run_source(l: &[u8], out: &mut [u8; 262144]) -> usize
 {
     let n = put_line(out, 0, 2);
     let source = skipped(source_at(l), three_at(l, 13));
-    let first = SourceStep {
-        source,
-        given: Given::None,
+    let first = Step {
+        voice: source,
+        given: None,
     };
     let to = requests(out, n, first, printed_at(l, 16));
-    let last = to.last;
-    let s = last.source;
-    let state = put_source(out, to.next, s);
-    let carrier = s.carrier_hz(long_at(l, 9));
-    let end = put(out, state, carrier_number(carrier) as u64, 8);
+    let last = to.last.voice;
+    let state = put_source(out, to.next, last);
+    let carrier = last.carrier_hz(long_at(l, 9));
+    let end = put(out, state, carrier.unwrap_or(0) as u64, 8);
     end_line(out, end)
 }
 
+#[tactic(auto, using(std::proofs::lemmas::Bool::Decides::nat_tests), unfolding(crate::specs::Sounds::source_text))]
 pub(crate) fn source(l: &[u8], out: &mut [u8; 262144]) -> usize
     ensures { Wrote out.old 0 (source_text l.now) out.new result }
 {
@@ -151,6 +140,7 @@ pub(crate) fn source(l: &[u8], out: &mut [u8; 262144]) -> usize
     }
 }
 
+#[tactic(auto, using(std::proofs::lemmas::Bool::Decides::nat_tests), unfolding(crate::specs::Replies::restored_reply))]
 pub(crate) fn restored_reply(l: &[u8]) -> Reply
     ensures { result ≡ restored_reply l.now }
 {
@@ -165,7 +155,7 @@ pub(crate) fn restored_reply(l: &[u8]) -> Reply
 }
 
 // A voice that sounds without end, with a new voice's Hz and rate.
-fn restored_at(l: &[u8]) -> RestoredVoice
+fn restored_at(l: &[u8]) -> Option<PolyBlepVoice>
     ensures { Made ValidRestoredVoice (restored_at l.now) result }
 {
     let waveform = polyblep_waveform(byte_at(l, 9));
@@ -185,24 +175,22 @@ fn run_requests(source: VoiceSource, count: u16, out: &mut [u8; 262144]) -> usiz
     ensures { Wrote out.old 0 (requests_line count source) out.new result }
 {
     let n = put_line(out, 0, 2);
-    let first = SourceStep {
-        source,
-        given: Given::None,
+    let first = Step {
+        voice: source,
+        given: None,
     };
     let to = requests(out, n, first, count);
-    let last = to.last;
-    let s = last.source;
-    let end = put_source(out, to.next, s);
+    let end = put_source(out, to.next, to.last.voice);
     end_line(out, end)
 }
 
+#[tactic(auto, unfolding(crate::specs::Sounds::restored_text))]
 pub(crate) fn restored(l: &[u8], out: &mut [u8; 262144]) -> usize
     ensures { Wrote out.old 0 (restored_text l.now) out.new result }
 {
     let count = printed_at(l, 10);
-    let restored = restored_at(l);
-    match restored {
-        RestoredVoice::Voice(v) => run_requests(VoiceSource::PolyBlep(v), count, out),
-        RestoredVoice::Refused => put_line(out, 1, 2),
+    match restored_at(l) {
+        Some(v) => run_requests(VoiceSource::PolyBlep(v), count, out),
+        None => put_line(out, 1, 2),
     }
 }

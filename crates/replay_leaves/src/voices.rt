@@ -1,7 +1,7 @@
 // A voice alone: how it starts, its frames, and what is printed of them.
 ghost use Rattle.std.specs.Prelude.{◌≡◌, ◌+◌, ◌*◌, ◌≤◌};
 ghost use Rattle.laws.specs.Made.{Made};
-ghost use Rattle.voice.specs.Voices.{Valid, ValidVoiceStep, ValidStereoStep};
+ghost use Rattle.voice.specs.Voices.{Valid, ValidStep};
 ghost use Rattle.hex_digits.specs.Hex.{long_at, Laid, Wrote};
 ghost use Rattle.replay_leaves.specs.Replies.{voice_reply};
 ghost use Rattle.replay_leaves.specs.Runs.{stepped, texts};
@@ -9,18 +9,19 @@ ghost use Rattle.replay_leaves.specs.Voices.{voice_at, let_go_if, held_at, passe
 
 use crate::Reply;
 use crate::sounds::{given_number, printed_at, source_at, waveforms};
-use fixed::Given;
+use fixed::Step;
 use hex_digits::{byte_at, end_line, long_at, put, put_line, three_at, wide_at};
 use replay_fields::{flag_number, put_voice, spec_at};
-use voice::{StereoGiven, StereoStep, Voice, VoiceStep};
+use voice::Voice;
 
 // A voice after some frames, and the place after their texts.
-#[derive(Clone, Copy)]
+#[derive(Clone, Copy, Debug, PartialEq)]
 struct Framed {
     voice: Voice,
     next: usize,
 }
 
+#[tactic(auto, using(std::proofs::lemmas::Bool::Decides::nat_tests), unfolding(crate::specs::Replies::voice_reply))]
 pub(crate) fn voice_reply(l: &[u8]) -> Reply
     ensures { result ≡ voice_reply l.now }
 {
@@ -59,16 +60,13 @@ fn passed(first: Voice, count: u32) -> Voice
     ensures { Made Valid (stepped passed_frame count first) result }
 {
     let mut voice = first;
-    let mut left = count;
-    while left > 0 {
-        let ticked = voice.tick_envelope();
-        let step = ticked.next_sample();
-        voice = step.voice;
-        left -= 1;
+    for _ in 0..count {
+        voice = voice.tick_envelope().next_sample().voice;
     }
     voice
 }
 
+#[tactic(auto, using(std::proofs::lemmas::Bool::Decides::nat_tests))]
 fn let_go(release: u8, v: Voice) -> Voice
     requires { Valid v }
     ensures { Made Valid (let_go_if release v) result }
@@ -77,6 +75,7 @@ fn let_go(release: u8, v: Voice) -> Voice
 }
 
 // The voice before the frames that are printed.
+#[tactic(auto, unfolding(crate::specs::Voices::held_at))]
 fn held_at(l: &[u8]) -> Voice
     requires { long_at l.now 9 ≤ 65537 }
     ensures { Made Valid (held_at l.now) result }
@@ -85,71 +84,64 @@ fn held_at(l: &[u8]) -> Voice
     let_go(byte_at(l, 26), voice)
 }
 
-fn frames(out: &mut [u8; 262144], at: usize, first: VoiceStep, count: u16) -> Framed
-    requires { ValidVoiceStep first }
+fn frames(out: &mut [u8; 262144], at: usize, first: Step<Voice, Option<i8>>, count: u16) -> Framed
+    requires { ValidStep first }
     ensures laid { Laid out.old at (texts mono_frame frame_text count first) out.new result.next }
     ensures next_bound { result.next ≤ at + 4 * count }
     ensures made { Made Valid (stepped mono_frame count first).voice result.voice }
 {
     let mut last = first;
     let mut next = at;
-    let mut left = count;
-    while left > 0 {
-        let v = last.voice;
-        let t = v.tick_envelope();
-        last = t.next_sample();
-        let g = last.given;
-        next = put(out, next, given_number(g), 4);
-        left -= 1;
+    for _ in 0..count {
+        last = last.voice.tick_envelope().next_sample();
+        next = put(out, next, given_number(last.given), 4);
     }
-    let voice = last.voice;
-    Framed { voice, next }
+    Framed {
+        voice: last.voice,
+        next,
+    }
 }
 
-fn left_number(g: StereoGiven) -> u64
+fn left_number(g: Option<(i8, i8)>) -> u64
     ensures { result ≡ left_number g }
 {
-    match g {
-        StereoGiven::Pair(left, _) => fixed::as_u8(left) as u64,
-        StereoGiven::None => 256,
-    }
+    g.map_or(256, |(left, _)| u64::from(left.cast_unsigned()))
 }
 
-fn right_number(g: StereoGiven) -> u64
+fn right_number(g: Option<(i8, i8)>) -> u64
     ensures { result ≡ right_number g }
 {
-    match g {
-        StereoGiven::Pair(_, right) => fixed::as_u8(right) as u64,
-        StereoGiven::None => 0,
-    }
+    g.map_or(0, |(_, right)| u64::from(right.cast_unsigned()))
 }
 
-fn put_pair(out: &mut [u8; 262144], at: usize, g: StereoGiven) -> usize
+fn put_pair(out: &mut [u8; 262144], at: usize, g: Option<(i8, i8)>) -> usize
     ensures { Laid out.old at (pair_of g) out.new result × (result ≤ at + 6) }
 {
     let n = put(out, at, left_number(g), 4);
     put(out, n, right_number(g), 2)
 }
 
-fn pairs(out: &mut [u8; 262144], at: usize, first: StereoStep, count: u16) -> Framed
-    requires { ValidStereoStep first }
+fn pairs(
+    out: &mut [u8; 262144],
+    at: usize,
+    first: Step<Voice, Option<(i8, i8)>>,
+    count: u16,
+) -> Framed
+    requires { ValidStep first }
     ensures laid { Laid out.old at (texts stereo_frame pair_text count first) out.new result.next }
     ensures next_bound { result.next ≤ at + 6 * count }
     ensures made { Made Valid (stepped stereo_frame count first).voice result.voice }
 {
     let mut last = first;
     let mut next = at;
-    let mut left = count;
-    while left > 0 {
-        let v = last.voice;
-        let t = v.tick_envelope();
-        last = t.next_stereo_sample();
-        let g = last.given;
-        next = put_pair(out, next, g);
-        left -= 1;
+    for _ in 0..count {
+        last = last.voice.tick_envelope().next_stereo_sample();
+        next = put_pair(out, next, last.given);
     }
-    let voice = last.voice;
-    Framed { voice, next }
+    Framed {
+        voice: last.voice,
+        next,
+    }
 }
 
 // On one side or on two.
@@ -161,16 +153,10 @@ fn put_frames(out: &mut [u8; 262144], at: usize, stereo: u8, voice: Voice, count
     ensures made { Made Valid (frames_last stereo count voice) result.voice }
 {
     if stereo == 1 {
-        let first = StereoStep {
-            voice,
-            given: StereoGiven::None,
-        };
+        let first = Step { voice, given: None };
         pairs(out, at, first, count)
     } else {
-        let first = VoiceStep {
-            voice,
-            given: Given::None,
-        };
+        let first = Step { voice, given: None };
         frames(out, at, first, count)
     }
 }
@@ -181,14 +167,13 @@ fn run_voice(l: &[u8], out: &mut [u8; 262144]) -> usize
 {
     let n = put_line(out, 0, 2);
     let held = held_at(l);
-    let stereo = byte_at(l, 22);
-    let to = put_frames(out, n, stereo, held, printed_at(l, 27));
-    let v = to.voice;
-    let state = put_voice(out, to.next, v);
-    let end = put(out, state, flag_number(v.is_audible()), 2);
+    let to = put_frames(out, n, byte_at(l, 22), held, printed_at(l, 27));
+    let state = put_voice(out, to.next, to.voice);
+    let end = put(out, state, flag_number(to.voice.is_audible()), 2);
     end_line(out, end)
 }
 
+#[tactic(auto, using(std::proofs::lemmas::Bool::Decides::nat_tests), unfolding(crate::specs::Voices::voice_text))]
 pub(crate) fn voice(l: &[u8], out: &mut [u8; 262144]) -> usize
     ensures { Wrote out.old 0 (voice_text l.now) out.new result }
 {

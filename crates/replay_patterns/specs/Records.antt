@@ -5,7 +5,7 @@ use Rattle.hex_digits.specs.Hex.{wide_at, long_at, bytes_from, hex_of, newline}
 use Rattle.replay_cells.specs.Cells.{byte_text, cells_text}
 use Rattle.evacuation.specs.Pattern.{byte_of, samples_from}
 use Rattle.evacuation.specs.Reader.{whole_cycles}
-use Rattle.evacuation.specs.Opened.{opened_at, pattern_at, reader_at}
+use Rattle.evacuation.specs.Opened.{opened_at}
 
 -- 80, evacuation pattern: "rate (4), first sample (4), samples (2) | number; if 00, a second line: 01 or 00 for each sample"
 abbrev pub samples_at : ℕ → List ℕ → List ℕ
@@ -16,7 +16,7 @@ lines_of (value samples) = hex_of 2 0 ++ newline ++ cells_text byte_text samples
 lines_of (refused n) = hex_of 2 n ++ newline
 
 unfoldable pub pattern_text : List ℕ → List ℕ
-pattern_text l = lines_of (and_then (opened_at (long_at l 1) (pattern_at (long_at l 1))) (λ p. value (samples_at p.sample_rate_hz l)))
+pattern_text l = lines_of (and_then (opened_at (long_at l 1)) (λ rate. value (samples_at rate l)))
 
 -- 81, evacuation reader: "rate (4), then bytes (0 to 4,092) | number, then 01 whole cycles or 00 not (00 where refused)"
 -- a line that has more bytes is bad
@@ -29,4 +29,4 @@ line_of (refused n) = hex_of 2 n ++ hex_of 2 0 ++ newline
 
 unfoldable pub reader_text : List ℕ → List ℕ
 reader_text l =
-    line_of (and_then (opened_at (long_at l 1) (reader_at (long_at l 1))) (λ r. value (byte_of (whole_cycles r.sample_rate_hz (recording_at l)))))
+    line_of (and_then (opened_at (long_at l 1)) (λ rate. value (byte_of (whole_cycles rate (recording_at l)))))

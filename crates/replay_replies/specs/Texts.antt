@@ -1,15 +1,12 @@
 -- The text of each reply. Assumes nothing.
-use Rattle.std.specs.Prelude.{ℕ, Bool, List, [], ◌++◌, map, length, take}
+use Rattle.std.specs.Prelude.{ℕ, Bool, List, [], ◌++◌, map, length, take, None, Option, Some}
 use Rattle.error.specs.Told.{number_in}
 use Rattle.tier.specs.Kinds.{byte_of}
 use Rattle.bank.specs.Banks.{payload_under, payload_part}
-use Rattle.bank.specs.declared.BankSet.{BankSet}
 use Rattle.bank.specs.declared.EffectEntry.{EffectEntry}
 use Rattle.hex_digits.specs.Hex.{wide_at, long_at, hex_of, newline}
 use Rattle.replay_cells.specs.Cells.{byte_text, wide_text, numbered_text}
 use Rattle.mixer.specs.Mixers.{voice_read}
-use Rattle.mixer.specs.declared.VoiceRead.{VoiceRead}
-use Rattle.mixer.specs.declared.VoiceRead.TheVariants as I
 use Rattle.config.specs.declared.AudioConfig.{AudioConfig}
 use Rattle.replay_dump.specs.Dumps.{policy_number, mode_number, voice_line, dump_text}
 use Rattle.replay_box.specs.Boxes.{mixer_of, ranks_of, waiting_in}
@@ -18,6 +15,8 @@ use Rattle.replay_calls.specs.declared.Reply.{Reply}
 use Rattle.replay_calls.specs.declared.Reply.TheVariants as R
 use Rattle.waiting.specs.Lines.{label_of}
 use Rattle.waiting.specs.declared.Waiting.{Waiting}
+use Rattle.bank.specs.declared.SoundBank.{SoundBank}
+use Rattle.voice.specs.declared.Voice.{Voice}
 
 -- a bad line "prints FFFF"
 abbrev pub bad_text : List ℕ
@@ -37,7 +36,7 @@ entry_text e =
     ++ newline
 
 -- "offset (4), length (2) | number, then the part's bytes"
-unfoldable pub payload_text : Bool → BankSet → List ℕ → List ℕ → List ℕ
+unfoldable pub payload_text : Bool → Option SoundBank → List ℕ → List ℕ → List ℕ
 payload_text parted bank l bytes =
     numbered_text 2 (number_in (payload_under parted bank bytes (long_at l 1) (wide_at l 5)))
     byte_text
@@ -65,9 +64,9 @@ config_text c =
     ++ newline
 
 -- 69: "the voice's line as in a dump, or an empty line where there is no such voice"
-abbrev pub voice_text : VoiceRead → List ℕ
-voice_text (I.Voice v) = voice_line v
-voice_text I.None = newline
+abbrev pub voice_text : Option Voice → List ℕ
+voice_text (Some v) = voice_line v
+voice_text None = newline
 
 -- 7A: "2 digits for each of the N voices"
 abbrev pub ranks_text : OpenBox → List ℕ

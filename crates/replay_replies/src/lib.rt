@@ -2,20 +2,19 @@
 #![tactic(auto)]
 
 ghost use Rattle.std.specs.Prelude.{◌≡◌};
-ghost use Rattle.bank.specs.Banks.{told_payload};
-ghost use Rattle.error.specs.Told.{number_in};
+ghost use Rattle.error.specs.Told.{told, number_in};
 ghost use Rattle.mixer.specs.Mixers.{voice_read};
 ghost use Rattle.hex_digits.specs.Hex.{Wrote};
 ghost use Rattle.replay_box.specs.Boxes.{ValidBox, mixer_of, waiting_in};
 ghost use Rattle.replay_replies.specs.Texts.{entry_text, payload_text, two_text, wide_two_text, labelled_text, config_text, voice_text, ranks_text, waiting_text, reply_text};
 
-use bank::{EffectEntry, PayloadRead};
+use bank::EffectEntry;
 use config::AudioConfig;
+use error::AudioError;
 use hex_digits::{end_line, long_at, put, put_line, wide_at};
-use mixer::VoiceRead;
 use replay_box::OpenBox;
 use replay_calls::Reply;
-use replay_cells::{put_u8s, put_u16s};
+use replay_cells::put_cells;
 use replay_dump::{mode_number, policy_number, put_dump};
 use replay_fields::put_voice;
 
@@ -46,10 +45,9 @@ fn put_labelled(out: &mut [u8; 262144], a: u64, b: u64) -> usize
 fn put_config(out: &mut [u8; 262144], c: AudioConfig) -> usize
     ensures { Wrote out.old 0 (config_text c) out.new result }
 {
-    let mode = c.duty_mode;
     let n1 = put(out, 0, c.sample_rate_hz as u64, 8);
     let n2 = put(out, n1, c.pwm_period as u64, 4);
-    let n3 = put(out, n2, mode_number(mode), 2);
+    let n3 = put(out, n2, mode_number(c.duty_mode), 2);
     let n4 = put(out, n3, c.master_gain_q8 as u64, 2);
     end_line(out, n4)
 }
@@ -60,11 +58,11 @@ fn put_voice_at(out: &mut [u8; 262144], e: OpenBox, i: u8) -> usize
 {
     let read = e.voice(i as usize);
     match read {
-        VoiceRead::Voice(v) => {
+        Some(v) => {
             let end = put_voice(out, 0, v);
             end_line(out, end)
         }
-        VoiceRead::None => end_line(out, 0),
+        None => end_line(out, 0),
     }
 }
 
@@ -74,7 +72,7 @@ fn put_ranks(out: &mut [u8; 262144], e: OpenBox) -> usize
 {
     let ranks = e.ranks();
     let n = e.voice_count();
-    put_u8s(out, 0, 0, &ranks[..n])
+    put_cells(out, 0, 0, &ranks[..n])
 }
 
 fn put_waiting(out: &mut [u8; 262144], e: OpenBox) -> usize
@@ -83,15 +81,14 @@ fn put_waiting(out: &mut [u8; 262144], e: OpenBox) -> usize
 {
     let labels = e.waiting_labels();
     let n = e.waiting_count();
-    put_u16s(out, n as u64, 2, &labels[..n])
+    put_cells(out, n as u64, 2, &labels[..n])
 }
 
 fn put_entry(out: &mut [u8; 262144], e: EffectEntry) -> usize
     ensures { Wrote out.old 0 (entry_text e) out.new result }
 {
-    let kind = e.kind;
     let n1 = put(out, 0, 0, 2);
-    let n2 = put(out, n1, kind.as_u8() as u64, 2);
+    let n2 = put(out, n1, u64::from(u8::from(e.kind)), 2);
     let n3 = put(out, n2, e.flags as u64, 2);
     let n4 = put(out, n3, e.default_gain_q8 as u64, 2);
     let n5 = put(out, n4, e.param0 as u64, 4);
@@ -101,12 +98,12 @@ fn put_entry(out: &mut [u8; 262144], e: EffectEntry) -> usize
     end_line(out, n8)
 }
 
-fn payload_number(p: PayloadRead) -> u64
-    ensures { result ≡ number_in (told_payload p) }
+fn payload_number(p: Result<(), AudioError>) -> u64
+    ensures { result ≡ number_in (told p) }
 {
     match p {
-        PayloadRead::Whole => 0,
-        PayloadRead::Refused(e) => e.number() as u64,
+        Ok(()) => 0,
+        Err(e) => u8::from(e) as u64,
     }
 }
 
@@ -119,7 +116,7 @@ fn put_payload(l: &[u8], bytes: &[u8], e: OpenBox, out: &mut [u8; 262144]) -> us
     let read = e.payload_number(bytes, offset, len);
     let number = payload_number(read);
     let part = e.payload(bytes, offset, len);
-    put_u8s(out, number, 2, part)
+    put_cells(out, number, 2, part)
 }
 
 pub fn put_reply(reply: Reply, l: &[u8], bytes: &[u8], e: OpenBox, out: &mut [u8; 262144]) -> usize
@@ -136,18 +133,9 @@ pub fn put_reply(reply: Reply, l: &[u8], bytes: &[u8], e: OpenBox, out: &mut [u8
         Reply::Labelled(a, b) => put_labelled(out, a, b),
         Reply::Entry(entry) => put_entry(out, entry),
         Reply::Payload => put_payload(l, bytes, e, out),
-        Reply::Dump => {
-            let m = e.state();
-            put_dump(out, m)
-        }
-        Reply::Policy => {
-            let policy = e.stealing_policy();
-            put_line(out, policy_number(policy), 2)
-        }
-        Reply::Configuration => {
-            let config = e.config();
-            put_config(out, config)
-        }
+        Reply::Dump => put_dump(out, e.state()),
+        Reply::Policy => put_line(out, policy_number(e.stealing_policy()), 2),
+        Reply::Configuration => put_config(out, e.config()),
         Reply::Voice(i) => put_voice_at(out, e, i),
         Reply::Ranks => put_ranks(out, e),
         Reply::Waiting => put_waiting(out, e),

@@ -3,12 +3,12 @@ use mathlib.Core.Path.{◌≡◌}
 use mathlib.Core.Bool.{Bool, true, false}
 use mathlib.Core.List.{List}
 use Prim.Native.Nat.{ℕ}
-use Rattle.mixer.specs.Mixers.{told_outcome}
 use Rattle.hex_digits.specs.Hex.{byte_at}
 use Rattle.replay_box.specs.Boxes.{opened}
 use Rattle.replay_box.specs.declared.BoxChanged.{BoxChanged}
 use Rattle.replay_session.specs.Sessions.{bad_line, policy_of, config_at, opens, opened_as, open_answer}
 use Rattle.replay_session.specs.declared.Session.{Session}
+use Rattle.error.specs.Told.{told}
 
 -- what the record asks for
 abbrev pub asked : Bool → Session → List ℕ → BoxChanged
@@ -18,6 +18,6 @@ pub not-opens : (present : Bool) (s : Session) (l : List ℕ) → opens l ≡ fa
 unfolding open_answer
 not-opens present s l e = rw e
 
-pub opens_as : (present : Bool) (s : Session) (l : List ℕ) {r : BoxChanged} → opens l ≡ true → r ≡ asked present s l → open_answer present s l ≡ opened_as s (told_outcome r.outcome) r.held
+pub opens_as : (present : Bool) (s : Session) (l : List ℕ) {r : BoxChanged} → opens l ≡ true → r ≡ asked present s l → open_answer present s l ≡ opened_as s (told r.outcome) r.held
 unfolding open_answer
 opens_as present s l e k = rw (e, k)

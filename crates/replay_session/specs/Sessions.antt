@@ -4,7 +4,6 @@ use Rattle.error.specs.Told as T
 use Rattle.laws.specs.Made.{Made}
 use Rattle.config.specs.declared.AudioConfig.{AudioConfig}
 use Rattle.output.specs.declared.DutyMode.TheVariants as D
-use Rattle.mixer.specs.Mixers.{told_outcome}
 use Rattle.mixer.specs.declared.VoiceStealingPolicy.{VoiceStealingPolicy}
 use Rattle.mixer.specs.declared.VoiceStealingPolicy.TheVariants as P
 use Rattle.hex_digits.specs.Hex.{all_digits, byte_at, wide_at, long_at, hex_of, newline, Wrote}
@@ -22,6 +21,7 @@ use Rattle.replay_replies.specs.Texts.{bad_text, reply_text}
 use Rattle.replay_waits.specs.Waits.{is_wait, called_any}
 use Rattle.replay_session.specs.declared.Session.{Session}
 use Rattle.replay_session.specs.declared.SessionAnswered.{SessionAnswered}
+use Rattle.error.specs.Told.{told}
 
 -- at most 4,096 bytes are lent
 pub record ValidSession (s : Session) : Type 0 where
@@ -73,7 +73,7 @@ opened_as s (T.refused n) b = record { text = hex_of 2 n ++ newline; more = true
 unfoldable pub open_answer : Bool → Session → List ℕ → Answer
 open_answer present s l =
     let c = opened s.held present (byte_at l 1) (config_at l) (policy_of (byte_at l 10)) in
-    cond (opens l) (opened_as s (told_outcome c.outcome) c.held) (bad_line s)
+    cond (opens l) (opened_as s (told c.outcome) c.held) (bad_line s)
 
 -- n bytes of a line, from byte k on
 unfoldable pub bytes_at : List ℕ → ℕ → ℕ → List ℕ

@@ -9,7 +9,7 @@ ghost use Rattle.replay_session.specs.Sessions.{bytes_at, ValidSession, LaidAnsw
 
 use config::AudioConfig;
 use hex_digits::{all_digits, byte_at, long_at, put_line, wide_at};
-use mixer::{Outcome, VoiceStealingPolicy};
+use mixer::VoiceStealingPolicy;
 use output::DutyMode;
 use replay_box::OpenBox;
 use replay_calls::Reply;
@@ -129,7 +129,7 @@ fn open_answer(present: bool, l: &[u8], s: Session, out: &mut [u8; 262144]) -> S
     let c = b.opened(present, byte_at(l, 1) as usize, config, policy);
     let outcome = c.outcome;
     match outcome {
-        Outcome::Done => {
+        Ok(()) => {
             let held = c.held;
             let session = Session {
                 is_open: true,
@@ -143,8 +143,8 @@ fn open_answer(present: bool, l: &[u8], s: Session, out: &mut [u8; 262144]) -> S
                 session,
             }
         }
-        Outcome::Refused(e) => {
-            let len = put_line(out, e.number() as u64, 2);
+        Err(e) => {
+            let len = put_line(out, u8::from(e) as u64, 2);
             SessionAnswered {
                 len,
                 more: true,

@@ -1,6 +1,6 @@
 -- The records 74 to 78, of requests that wait in a box of the present rules: each is a bad line on document 01's box. Fields count from byte 1 on. Assumes
 -- nothing.
-use Rattle.std.specs.Prelude.{ℕ, Bool, cond, ◌&&◌, List, leb, eqb}
+use Rattle.std.specs.Prelude.{ℕ, Bool, cond, ◌&&◌, List, leb, eqb, None, Option, Some}
 use Rattle.error.specs.Numbers.{number_of}
 use Rattle.hex_digits.specs.Hex.{byte_at, wide_at}
 use Rattle.replay_box.specs.Boxes.{left, withdrawn, waiting_in, kept_in}
@@ -12,10 +12,8 @@ use Rattle.replay_calls.specs.declared.Reply.TheVariants as R
 use Rattle.replay_fields.specs.Read.{spec_at}
 use Rattle.sounder.specs.Sounders.{request_of}
 use Rattle.waiting.specs.Lines.{first_of}
-use Rattle.waiting.specs.declared.Kept.{Kept}
-use Rattle.waiting.specs.declared.Kept.TheVariants as K
-use Rattle.waiting.specs.declared.NextInLine.{NextInLine}
-use Rattle.waiting.specs.declared.NextInLine.TheVariants as N
+use Rattle.error.specs.declared.AudioError.{AudioError}
+use Rattle.waiting.specs.declared.Waiting.{Waiting}
 
 -- "In 74 building 0 is the only one .. until then it makes a bad line."
 unfoldable pub allowed_wait : ℕ → List ℕ → Bool
@@ -30,17 +28,17 @@ unfoldable pub withdraw_call : List ℕ → OpenBox → Called
 withdraw_call l e = changed_call (withdrawn e (wide_at l 1))
 
 -- 77, next in line: "01 and its label (4 digits), or 00 where there is none"
-abbrev pub next_reply : NextInLine → Reply
-next_reply N.Nobody = R.Number 0
-next_reply (N.Next w) = R.Labelled 1 w.label
+abbrev pub next_reply : Option Waiting → Reply
+next_reply None = R.Number 0
+next_reply (Some w) = R.Labelled 1 w.label
 
 unfoldable pub next_call : OpenBox → Called
 next_call e = asked (next_reply (first_of (waiting_in e))) e
 
 -- 78, kept refusal: "its number and its label (4 digits), or 00 where there is none"
-abbrev pub kept_reply : Kept → Reply
-kept_reply K.Nothing = R.Number 0
-kept_reply (K.Refusal error label) = R.Labelled (number_of error) label
+abbrev pub kept_reply : Option (AudioError × ℕ) → Reply
+kept_reply None = R.Number 0
+kept_reply (Some (error, label)) = R.Labelled (number_of error) label
 
 unfoldable pub kept_call : OpenBox → Called
 kept_call e = asked (kept_reply (kept_in e)) e

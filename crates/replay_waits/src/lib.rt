@@ -7,11 +7,12 @@ ghost use Rattle.replay_box.specs.Boxes.{ValidBox};
 ghost use Rattle.replay_calls.specs.Calls.{ValidCalled};
 ghost use Rattle.replay_waits.specs.Waits.{allowed_wait, leave_call, withdraw_call, next_reply, next_call, kept_reply, kept_call, wait_for, is_wait, waited, called_any};
 
+use error::AudioError;
 use hex_digits::{byte_at, wide_at};
 use replay_box::OpenBox;
 use replay_calls::{Called, Reply, outcome_reply};
 use replay_fields::spec_at;
-use waiting::{Kept, NextInLine};
+use waiting::Waiting;
 
 fn is_allowed(code: u8, l: &[u8]) -> bool
     ensures { result ≡ allowed_wait code l.now }
@@ -30,11 +31,9 @@ fn leave_call(l: &[u8], e: OpenBox) -> Called
 {
     let adsr = spec_at(l, 6);
     let c = e.leave(wide_at(l, 1), wide_at(l, 4), adsr, byte_at(l, 13));
-    let outcome = c.outcome;
-    let held = c.held;
     Called {
-        reply: outcome_reply(outcome),
-        held,
+        reply: outcome_reply(c.outcome),
+        held: c.held,
     }
 }
 
@@ -43,20 +42,18 @@ fn withdraw_call(l: &[u8], e: OpenBox) -> Called
     ensures { Made ValidCalled (withdraw_call l.now e) result }
 {
     let c = e.withdraw(wide_at(l, 1));
-    let outcome = c.outcome;
-    let held = c.held;
     Called {
-        reply: outcome_reply(outcome),
-        held,
+        reply: outcome_reply(c.outcome),
+        held: c.held,
     }
 }
 
-fn next_reply(n: NextInLine) -> Reply
+fn next_reply(n: Option<Waiting>) -> Reply
     ensures { result ≡ next_reply n }
 {
     match n {
-        NextInLine::Nobody => Reply::Number(0),
-        NextInLine::Next(w) => Reply::Labelled(1, w.label as u64),
+        None => Reply::Number(0),
+        Some(w) => Reply::Labelled(1, w.label as u64),
     }
 }
 
@@ -71,12 +68,12 @@ fn next_call(e: OpenBox) -> Called
     }
 }
 
-fn kept_reply(k: Kept) -> Reply
+fn kept_reply(k: Option<(AudioError, u16)>) -> Reply
     ensures { result ≡ kept_reply k }
 {
     match k {
-        Kept::Nothing => Reply::Number(0),
-        Kept::Refusal(error, label) => Reply::Labelled(error.number() as u64, label as u64),
+        None => Reply::Number(0),
+        Some((error, label)) => Reply::Labelled(u8::from(error) as u64, label as u64),
     }
 }
 

@@ -1,4 +1,5 @@
 -- Demand 3 holds of every lawful box, by the theorem on boxes of voices. Assumes nothing.
+use Rattle.std.specs.Prelude.{Option as OptionOf}
 use Prim.Native.Nat.{ℕ}
 use native.Mathlib.Omega.{arith}
 use mathlib.Core.Path.{◌≡◌, refl, ap, sym, ◌∙◌}
@@ -7,13 +8,12 @@ use mathlib.Core.List.{List, [], ◌∷◌}
 use mathlib.Core.Option.{Option, some}
 use lib.ListN.{length}
 use lib.Seq.{length-take-le}
-use Rattle.error.specs.Told.{Told, value, refused}
+use Rattle.error.specs.Told.{told, Told, value, refused}
 use Rattle.allocate.specs.Allocation.{priority_of, place_of, chosen, allocated}
-use Rattle.bank.specs.declared.BankSet.{BankSet}
 use Rattle.laws.proofs.Bools.{never}
 use Rattle.mixer.specs.Mixers as M
 use Rattle.mixer.specs.declared.Mixer.{Mixer}
-use Rattle.play.specs.Plays.{placed_by, told_play, played_at, played}
+use Rattle.play.specs.Plays.{placed_by, played_at, played}
 use Rattle.play.specs.declared.Played.{Played}
 use Rattle.ranking.specs.Box as B
 use Rattle.ranking.specs.Demand as Q
@@ -25,13 +25,14 @@ use Rattle.voice.specs.Voices.{audible}
 use Rattle.voice.specs.declared.Voice.{Voice}
 use Rattle.requests.specs.Players.{Player, Lawful, voices, sound, place_given, handed_out, is_place, accepted, played_all, last_got, StartedBy, Demand3, Ranks, played_in, ByRule}
 use Rattle.requests.proofs.One.{voice_or, sounding, handed-by, after-by, rest-by}
+use Rattle.bank.specs.declared.SoundBank.{SoundBank}
 
 same_rest : (m after : Mixer) (ws vs : List Voice) → after ≡ M.with_voices m ws → M.with_voices after vs ≡ M.with_voices m vs
 same_rest m after ws vs h = rw h
 
 module _ {State : Type 0} (b : Player State) (laws : Lawful b) (bytes : List ℕ) where
   -- what the theorem asks, of a bank
-  unfoldable box : BankSet → B.Box State Voice Request
+  unfoldable box : OptionOf SoundBank → B.Box State Voice Request
   box bank =
       record {
         audible = audible;
@@ -44,7 +45,7 @@ module _ {State : Type 0} (b : Player State) (laws : Lawful b) (bytes : List ℕ
         next = λ s r. b.next s bytes r;
       }
 
-  record Kept (bank : BankSet) (s : State) : Type 0 where
+  record Kept (bank : OptionOf SoundBank) (s : State) : Type 0 where
     ranks : Ranks b s
     same : (b.mixer s).bank ≡ bank
 
@@ -56,7 +57,7 @@ module _ {State : Type 0} (b : Player State) (laws : Lawful b) (bytes : List ℕ
     rest-next : b.mixer (b.next s bytes r) ≡ M.with_voices (b.mixer s) made.mixer.voices
     rest-next = laws.leaves s bytes r ∙ rest-by (b.mixer s) (place_of (laws.choice s r.priority)) (request_start (b.mixer s).bank bytes r)
 
-    module _ (bank : BankSet) (k : Kept bank s) where
+    module _ (bank : OptionOf SoundBank) (k : Kept bank s) where
       kept_next : Kept bank (b.next s bytes r)
       kept_next =
           record {
@@ -76,7 +77,7 @@ module _ {State : Type 0} (b : Player State) (laws : Lawful b) (bytes : List ℕ
           (ap M.voices_of (laws.leaves s bytes r)
           ∙ after-by (b.mixer s) r.priority (laws.choice s r.priority) (request_start (b.mixer s).bank bytes r) (laws.allows s r.priority k.ranks))
 
-  lawful : (bank : BankSet) → Q.Lawful (box bank) (Kept bank)
+  lawful : (bank : OptionOf SoundBank) → Q.Lawful (box bank) (Kept bank)
   unfolding box
   lawful bank =
       record {
@@ -88,12 +89,12 @@ module _ {State : Type 0} (b : Player State) (laws : Lawful b) (bytes : List ℕ
       }
 
   -- ---- all requests
-  all_after : (bank : BankSet) (s : State) (rs : List Request) → played_all b s bytes rs ≡ B.after_all (box bank) s rs
+  all_after : (bank : OptionOf SoundBank) (s : State) (rs : List Request) → played_all b s bytes rs ≡ B.after_all (box bank) s rs
   unfolding played_all B.after_all box
   all_after bank s [] = refl
   all_after bank s (r ∷ rs) = all_after bank (b.next s bytes r) rs
 
-  all-last : (i : ℕ) (bank : BankSet) (s : State) (rs : List Request) → Kept bank s → last_got b i s bytes rs ≡ B.last_got (box bank) i s rs
+  all-last : (i : ℕ) (bank : OptionOf SoundBank) (s : State) (rs : List Request) → Kept bank s → last_got b i s bytes rs ≡ B.last_got (box bank) i s rs
   unfolding last_got B.last_got box
   all-last i bank s [] k = refl
   all-last i bank s (r ∷ rs) k = rw (all-last i bank (b.next s bytes r) rs (kept_next s r bank k), handed-next s r bank k)
@@ -139,7 +140,7 @@ module _ {State : Type 0} (b : Player State) (laws : Lawful b) (bytes : List ℕ
   unfolding sound_request
   sound-accepted s r i h = rw (laws.hands s bytes r, h) (by-start (request_start (b.mixer s).bank bytes r))
     where
-      by-start : (t : Told Voice) → is_place (place_given (told_play (played_at (b.mixer s) (placed_by (value i) t)).outcome)) ≡ starts t
+      by-start : (t : Told Voice) → is_place (place_given (told (played_at (b.mixer s) (placed_by (value i) t)).outcome)) ≡ starts t
       by-start (value v) = refl
       by-start (refused f) = refl
 

@@ -1,4 +1,5 @@
 -- One play request, as the theorem on boxes of voices sees it. Assumes nothing.
+use Rattle.std.specs.Prelude.{Option as OptionOf}
 use Prim.Native.Nat.{ℕ, ◌<◌}
 use native.Mathlib.Omega.{arith}
 use mathlib.Core.Path.{◌≡◌, refl}
@@ -7,13 +8,12 @@ use mathlib.Core.List.{List}
 use mathlib.Core.Option.{Option, none, some}
 use lib.ListN.{length-take}
 use lib.Seq.{take-set-lt}
-use Rattle.error.specs.Told.{Told, value, refused, value_in}
+use Rattle.error.specs.Told.{told, Told, value, refused, value_in}
 use Rattle.allocate.specs.Allocation.{priority_of, place_of, allocated}
-use Rattle.bank.specs.declared.BankSet.{BankSet}
 use Rattle.laws.proofs.Bools.{never}
 use Rattle.mixer.specs.Mixers.{voices_of, with_voices}
 use Rattle.mixer.specs.declared.Mixer.{Mixer}
-use Rattle.play.specs.Plays.{placed_by, told_play, played_at, played}
+use Rattle.play.specs.Plays.{placed_by, played_at, played}
 use Rattle.play.specs.declared.Played.{Played}
 use Rattle.ranking.specs.Box as B
 use Rattle.ranking.specs.Demand as D
@@ -25,6 +25,7 @@ use Rattle.start.proofs.Laws.{Heard, request-heard}
 use Rattle.voice.specs.Voices.{audible, silent_voice}
 use Rattle.voice.specs.declared.Voice.{Voice}
 use Rattle.requests.specs.Players.{place_given}
+use Rattle.bank.specs.declared.SoundBank.{SoundBank}
 
 -- the voice of a start; any voice where there is none
 unfoldable pub voice_or : Told Voice → Voice
@@ -37,13 +38,13 @@ sounds (value v) p h e = h
 sounds (refused r) p h e = never e
 
 -- a sound request's voice is audible, and of its priority
-pub sounding : (bank : BankSet) (bytes : List ℕ) (r : Request) → sound_request bank bytes r ≡ true
+pub sounding : (bank : OptionOf SoundBank) (bytes : List ℕ) (r : Request) → sound_request bank bytes r ≡ true
     → (audible (voice_or (request_start bank bytes r)) ≡ true) × ((voice_or (request_start bank bytes r)).priority ≡ r.priority)
 unfolding sound_request
 sounding bank bytes r h = sounds (request_start bank bytes r) r.priority (request-heard false bank bytes r) h
 
 -- ---- by the voice that is chosen and the start that it asks for
-pub handed-by : (m : Mixer) (o : Option ℕ) (s : Told Voice) → place_given (told_play (played_at m (placed_by (place_of o) s)).outcome) ≡ cond (starts s) o none
+pub handed-by : (m : Mixer) (o : Option ℕ) (s : Told Voice) → place_given (told (played_at m (placed_by (place_of o) s)).outcome) ≡ cond (starts s) o none
 handed-by m none (value v) = refl
 handed-by m none (refused e) = refl
 handed-by m (some i) (value v) = refl
@@ -80,7 +81,7 @@ module _ (m : Mixer) (bytes : List ℕ) (r : Request) where
 
 -- ---- starts that differ at most in a refusal's number
 pub record SamePlay (p q : Played) : Type 0 where
-  pub place : value_in (told_play p.outcome) ≡ value_in (told_play q.outcome)
+  pub place : value_in (told p.outcome) ≡ value_in (told q.outcome)
   pub mixer : p.mixer ≡ q.mixer
 
 pub same_start : (m : Mixer) (place : Told ℕ) (s t : Told Voice) → value_in s ≡ value_in t → SamePlay (played_at m (placed_by place s)) (played_at m (placed_by place t))

@@ -10,12 +10,12 @@ use lib.Seq.{sets}
 use Rattle.allocate.specs.Keys.{age_of, keys_of, rekeyed}
 use Rattle.allocate.proofs.Rekeyed.{plain-rekeyed, rekeyed-keys}
 use Rattle.error.specs.Numbers.{number_of}
-use Rattle.error.specs.Told.{Told, value, refused}
+use Rattle.error.specs.Told.{told, Told, value, refused}
 use Rattle.error.specs.declared.AudioError.{AudioError}
 use Rattle.marks.specs.Marks.{ValidIn, rank_at}
 use Rattle.marks.specs.declared.Present.{Present}
 use Rattle.marks.proofs.Laws.{valid-inside, valid-quiet}
-use Rattle.play.specs.Plays.{played_under, told_play}
+use Rattle.play.specs.Plays.{played_under}
 use Rattle.play.specs.declared.Played.{Played}
 use Rattle.play.proofs.Placing.{placed, placed-stored, placed-kept}
 use Rattle.start.specs.declared.Request.{Request}
@@ -42,7 +42,7 @@ playing-start present p bytes requests cells count keys h k =
     let e : count - 0 ≡ count = omega arith in
     record { within = omega arith; valid = h; keyed = k; same = rw e; told = rw e }
 
-left-kept : (present : Bool) (p : Present) (q : Played) (x : AudioError) → q.mixer ≡ p.mixer → told_play q.outcome ≡ refused (number_of x) → left_by present p q ≡ p
+left-kept : (present : Bool) (p : Present) (q : Played) (x : AudioError) → q.mixer ≡ p.mixer → told q.outcome ≡ refused (number_of x) → left_by present p q ≡ p
 left-kept true p q x e f = rw (f, e)
 left-kept false p q x e f = rw e
 

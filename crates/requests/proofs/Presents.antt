@@ -1,4 +1,5 @@
 -- The state of a box is a lawful box, by the rules of either, and a request keeps it valid. Assumes nothing.
+use Rattle.std.specs.Prelude.{Err, Ok, Result}
 use Prim.Native.Nat.{ℕ, ◌-◌, ◌<◌}
 use native.Mathlib.Omega.{arith}
 use mathlib.Core.Path.{◌≡◌, refl, ap, sym, ◌∙◌}
@@ -9,7 +10,7 @@ use lib.ListN.{get_or, take, set}
 use Rattle.allocate.specs.Allocation.{allocated_in, oldest_in, place_of}
 use Rattle.allocate.specs.Keys.{keys_of, bound_of, lowest_key}
 use Rattle.allocate.proofs.Choice.{oldest-lawful, given_below}
-use Rattle.error.specs.Told.{Told, value, refused, refusal}
+use Rattle.error.specs.Told.{told, Told, value, refused, refusal}
 use Rattle.error.specs.Numbers.{number_of}
 use Rattle.error.specs.declared.AudioError.{AudioError}
 use Rattle.error.proofs.Told.{value-is, not-refused, refusal-number}
@@ -24,10 +25,8 @@ use Rattle.marks.proofs.Steps.{renewed-other}
 use Rattle.mixer.specs.Mixers as M
 use Rattle.mixer.specs.declared.Mixer.{Mixer}
 use Rattle.mixer.proofs.Laws.{valid-stored}
-use Rattle.play.specs.Plays.{placed_by, played_at, played_under, played, told_play}
+use Rattle.play.specs.Plays.{placed_by, played_at, played_under, played}
 use Rattle.play.specs.declared.Played.{Played}
-use Rattle.play.specs.declared.PlayOutcome.{PlayOutcome}
-use Rattle.play.specs.declared.PlayOutcome.TheVariants as O
 use Rattle.play.proofs.Placing.{placed, placed-stored, placed-kept}
 use Rattle.start.specs.Starts.{request_start, request_start_under}
 use Rattle.start.specs.declared.Request.{Request}
@@ -71,7 +70,7 @@ lawful true =
       hands = λ p bytes r. (oldest-played p bytes r).place;
       leaves =
           λ p bytes r.
-          started-mixer (played_under true p bytes r).mixer p.marks (told_play (played_under true p bytes r).outcome) ∙ (oldest-played p bytes r).mixer;
+          started-mixer (played_under true p bytes r).mixer p.marks (told (played_under true p bytes r).outcome) ∙ (oldest-played p bytes r).mixer;
     }
 
 -- ---- a voice that a request got
@@ -92,7 +91,7 @@ abbrev pub stored_in : Bool → Present → ℕ → Voice → Present
 stored_in present p i v = beside (M.with_voices p.mixer (set p.mixer.voices i v)) (renewed_by present i p.marks)
 
 pub left-stored : (present : Bool) (p : Present) (q : Played) (i : ℕ) (v : Voice) → ValidIn present p → i < 16 → audible v ≡ true
-    → q.mixer ≡ M.with_voices p.mixer (set p.mixer.voices i v) → told_play q.outcome ≡ value i → left_by present p q ≡ stored_in present p i v
+    → q.mixer ≡ M.with_voices p.mixer (set p.mixer.voices i v) → told q.outcome ≡ value i → left_by present p q ≡ stored_in present p i v
 left-stored true p q i v h l a e f = rw (f, e) (stored-settled h i l v a)
 left-stored false p q i v h l a e f = rw e
 
@@ -104,20 +103,20 @@ stored-valid-in true p i v h l w a =
 stored-valid-in false p i v h l w a = valid-stored i v h l w
 
 -- ---- the play request as a call
-told-voice : (o : PlayOutcome) (i : ℕ) → told_play o ≡ value i → o ≡ O.Voice i
-told-voice (O.Voice j) i e = ap O.Voice (value-is e)
-told-voice (O.Refused x) i e = not-refused (sym e)
+told-voice : (o : Result ℕ AudioError) (i : ℕ) → told o ≡ value i → o ≡ Ok i
+told-voice (Ok j) i e = ap Ok (value-is e)
+told-voice (Err x) i e = not-refused (sym e)
 
-told-refused : (o : PlayOutcome) (x : AudioError) → told_play o ≡ refused (number_of x) → o ≡ O.Refused x
-told-refused (O.Voice j) x e = not-refused e
-told-refused (O.Refused y) x e = let n : number_of y ≡ number_of x = cc in ap O.Refused (sym (refusal-number y) ∙ ap refusal n ∙ refusal-number x)
+told-refused : (o : Result ℕ AudioError) (x : AudioError) → told o ≡ refused (number_of x) → o ≡ Err x
+told-refused (Ok j) x e = not-refused e
+told-refused (Err y) x e = let n : number_of y ≡ number_of x = cc in ap Err (sym (refusal-number y) ∙ ap refusal n ∙ refusal-number x)
 
-same_answer : {o u : PlayOutcome} {s t : Present} → o ≡ u → s ≡ t → ◌≡◌ {A = PresentPlayed} (record { outcome = o; present = s }) (record { outcome = u; present = t })
+same_answer : {o u : Result ℕ AudioError} {s t : Present} → o ≡ u → s ≡ t → ◌≡◌ {A = PresentPlayed} (record { outcome = o; present = s }) (record { outcome = u; present = t })
 same_answer e f = rw (e, f)
 
 module _ (p : Present) (bytes : List ℕ) (r : Request) (h : Valid p) (keys : List ℕ) (e : keys ≡ keys_of true p.mixer.voices p.marks.voices) where
   pub made-stored : (i : ℕ) (v : Voice) (k : Marks) → placed true p bytes r keys ≡ value (i, v) → S.Valid v → k ≡ renewed_by true i p.marks
-      → Made ValidPresentPlayed (played_present p bytes r) (record { outcome = O.Voice i; present = beside (M.with_voices p.mixer (set p.mixer.voices i v)) k })
+      → Made ValidPresentPlayed (played_present p bytes r) (record { outcome = Ok i; present = beside (M.with_voices p.mixer (set p.mixer.voices i v)) k })
   made-stored i v k f w g =
       let q = played_under true p bytes r in
       let s = placed-stored true p bytes r h keys e i v f in
@@ -130,7 +129,7 @@ module _ (p : Present) (bytes : List ℕ) (r : Request) (h : Valid p) (keys : Li
       }
 
   pub made_kept : (x : AudioError) → placed true p bytes r keys ≡ refused (number_of x)
-      → Made ValidPresentPlayed (played_present p bytes r) (record { outcome = O.Refused x; present = p })
+      → Made ValidPresentPlayed (played_present p bytes r) (record { outcome = Err x; present = p })
   made_kept x f =
       let q = played_under true p bytes r in
       let s = placed-kept true p bytes r h keys e x f in
@@ -144,14 +143,14 @@ record Handed (p : Present) (bytes : List ℕ) (r : Request) (i : ℕ) : Type 0 
   place : i < p.mixer.n
   mixer : (played_under true p bytes r).mixer ≡ M.with_voices p.mixer (set p.mixer.voices i voice)
 
-handed : (p : Present) (bytes : List ℕ) (r : Request) (i : ℕ) → told_play (played_under true p bytes r).outcome ≡ value i → Handed p bytes r i
+handed : (p : Present) (bytes : List ℕ) (r : Request) (i : ℕ) → told (played_under true p bytes r).outcome ≡ value i → Handed p bytes r i
 unfolding played_under
 handed p bytes r i e =
     by_both (allocated_in true p r.priority) (given_below true p r.priority) (request_start_under true p.mixer.bank bytes r) refl refl
     (request-heard true p.mixer.bank bytes r) e
   where
     by_both : (a : Told ℕ) → ((n : ℕ) → allocated_in true p r.priority ≡ value n → n < p.mixer.n) → (s : Told Voice) → allocated_in true p r.priority ≡ a
-        → request_start_under true p.mixer.bank bytes r ≡ s → Heard r.priority s → told_play (played_at p.mixer (placed_by a s)).outcome ≡ value i → Handed p bytes r i
+        → request_start_under true p.mixer.bank bytes r ≡ s → Heard r.priority s → told (played_at p.mixer (placed_by a s)).outcome ≡ value i → Handed p bytes r i
     by_both (refused n) l s f g k e = not-refused (sym e)
     by_both (value n) l (refused m) f g k e = not-refused (sym e)
     by_both (value n) l (value v) f g k e =
@@ -165,7 +164,7 @@ aged-rule old k = go (ltb old k.rank && ltb k.rank 16)
     go true = refl
     go false = refl
 
-pub ranks-alone : (p : Present) (bytes : List ℕ) (r : Request) (i : ℕ) → Valid p → told_play (played_present p bytes r).outcome ≡ value i → RanksAlone p bytes r i
+pub ranks-alone : (p : Present) (bytes : List ℕ) (r : Request) (i : ℕ) → Valid p → told (played_present p bytes r).outcome ≡ value i → RanksAlone p bytes r i
 ranks-alone p bytes r i h e =
     let q = played_under true p bytes r in
     let s = handed p bytes r i e in

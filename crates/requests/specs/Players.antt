@@ -3,12 +3,12 @@ use Rattle.std.specs.Prelude.{ℕ, ◌≡◌, Bool, true, false, cond, take}
 use mathlib.Core.List.{List, [], ◌∷◌, ◌++◌, map, Perm}
 use Rattle.std.proofs.Math.Option.{Option, none, some, or_else}
 use Rattle.std.proofs.Math.ListN.{get_elem?}
-use Rattle.error.specs.Told.{Told, value, value_in}
+use Rattle.error.specs.Told.{told, Told, value, value_in}
 use Rattle.allocate.specs.Allocation.{priority_of, place_of}
 use Rattle.mixer.specs.Mixers.{voices_of, with_voices}
 use Rattle.mixer.specs.declared.Mixer.{Mixer}
 use Rattle.mixer.specs.declared.VoiceStealingPolicy.TheVariants as P
-use Rattle.play.specs.Plays.{placed_by, played_at, played, told_play}
+use Rattle.play.specs.Plays.{placed_by, played_at, played}
 use Rattle.play.specs.declared.Played.{Played}
 use Rattle.ranking.specs.Box.{handed_at}
 use Rattle.ranking.specs.Demand.{Allowed}
@@ -103,10 +103,10 @@ module _ {State : Type 0} (b : Player State) where
   pub record Lawful : Type 0 where
     pub choice : State → ℕ → Option ℕ
     pub allows : (s : State) (p : ℕ) → Ranks s → Allowed audible priority_of (voices s) p (choice s p)
-    pub hands : (s : State) (bytes : List ℕ) (r : Request) → handed_out s bytes r ≡ place_given (told_play (played_in s bytes r (choice s r.priority)).outcome)
+    pub hands : (s : State) (bytes : List ℕ) (r : Request) → handed_out s bytes r ≡ place_given (told (played_in s bytes r (choice s r.priority)).outcome)
     pub leaves : (s : State) (bytes : List ℕ) (r : Request) → b.mixer (b.next s bytes r) ≡ (played_in s bytes r (choice s r.priority)).mixer
 
   -- a box that hands out voices by document 01's rule, whichever numbers its refusals have
   pub record ByRule : Type 0 where
-    pub hands : (s : State) (bytes : List ℕ) (r : Request) → handed_out s bytes r ≡ place_given (told_play (played (b.mixer s) bytes r).outcome)
+    pub hands : (s : State) (bytes : List ℕ) (r : Request) → handed_out s bytes r ≡ place_given (told (played (b.mixer s) bytes r).outcome)
     pub leaves : (s : State) (bytes : List ℕ) (r : Request) → b.mixer (b.next s bytes r) ≡ (played (b.mixer s) bytes r).mixer

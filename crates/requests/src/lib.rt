@@ -10,15 +10,15 @@ ghost use Rattle.requests.specs.Slices.{big16_at, request_at, PlaysEach};
 
 use allocate::keys::{keys_of, rank, rekey, sounding_after};
 use envelope::AdsrSpec;
+use error::AudioError;
 use marks::{Mark, Marks, Present};
-use play::PlayOutcome;
-use play::places::{Placed, place};
+use play::places::place;
 use start::Request;
 
 // A state of the present rules, and the voice that the request got.
 #[derive(Clone, Copy)]
 pub struct PresentPlayed {
-    pub outcome: PlayOutcome,
+    pub outcome: Result<usize, AudioError>,
     pub present: Present,
 }
 
@@ -34,15 +34,15 @@ pub fn play_request(p: Present, bytes: &[u8], request: Request) -> PresentPlayed
     let bank = mixer.bank;
     let policy = mixer.stealing_policy;
     match place(&keys, mixer.n, policy, bank, bytes, request, true) {
-        Placed::Refused(e) => PresentPlayed {
-            outcome: PlayOutcome::Refused(e),
+        Err(e) => PresentPlayed {
+            outcome: Err(e),
             present: p,
         },
-        Placed::Voice(i, v) => {
+        Ok((i, v)) => {
             mixer.voices[i] = v;
             let marks = old.renewed(i);
             PresentPlayed {
-                outcome: PlayOutcome::Voice(i),
+                outcome: Ok(i),
                 present: Present { mixer, marks },
             }
         }
@@ -135,8 +135,8 @@ pub fn play_each(
         let bank = mixer.bank;
         let policy = mixer.stealing_policy;
         match place(&keys, mixer.n, policy, bank, bytes, request, present) {
-            Placed::Refused(e) => tell(outcomes, i, 256 * (e.number() as u16) + 255),
-            Placed::Voice(k, v) => {
+            Err(e) => tell(outcomes, i, 256 * (u8::from(e) as u16) + 255),
+            Ok((k, v)) => {
                 sounding = sounding_after(sounding, keys[k], present);
                 rekey(&mut keys, k, v.priority, sounding, present);
                 rules[k] = Mark {

@@ -1,4 +1,5 @@
 -- Which voices the calls that start one leave audible: no other than were before. Assumes nothing.
+use Rattle.std.specs.Prelude.{Err, Ok, Result}
 use Prim.Native.Nat.{ℕ, zero, suc}
 use mathlib.Core.Path.{◌≡◌, refl, sym, ◌∙◌}
 use mathlib.Core.Bool.{Bool, true, false, cond}
@@ -17,8 +18,6 @@ use Rattle.marks.specs.Marks.{heard_at}
 use Rattle.marks.proofs.Starts.{map-set}
 use Rattle.mixer.specs.Mixers as M
 use Rattle.mixer.specs.declared.Mixer.{Mixer}
-use Rattle.mixer.specs.declared.Outcome.{Outcome}
-use Rattle.mixer.specs.declared.Outcome.TheVariants as O
 use Rattle.play.specs.Fades as F
 use Rattle.play.specs.Plays as P
 use Rattle.play.proofs.Laws.{OnOrNot, turned, began, on-or-not}
@@ -29,6 +28,7 @@ use Rattle.voice.specs.Sources.{active_source}
 use Rattle.voice.specs.Voices.{audible, silent_voice, released_voice}
 use Rattle.voice.specs.declared.Voice.{Voice}
 use Rattle.voice.proofs.Laws.{or-false}
+use Rattle.error.specs.declared.AudioError.{AudioError}
 
 abbrev heard_in : List Voice → ℕ → Bool
 heard_in vs j = heard_at (map audible vs) j
@@ -77,9 +77,9 @@ unfolding F.begun
 begun-others m v step j e n = set-others (F.first_released m).voices 1 v j e n
 
 -- by what it was told
-abbrev pub HeardBy : Outcome → Mixer → Mixer → Type 0
-HeardBy O.Done m after = Others 1 m after
-HeardBy (O.Refused e) m after = Fewer m after
+abbrev pub HeardBy : Result (Unit {0}) AudioError → Mixer → Mixer → Type 0
+HeardBy (Ok tt) m after = Others 1 m after
+HeardBy (Err e) m after = Fewer m after
 
 by-start : (m : Mixer) (ms : ℕ) (t : Told Voice) → let c = F.faded_by (F.first_released m) ms t in HeardBy c.outcome m c.mixer
 unfolding F.faded_by

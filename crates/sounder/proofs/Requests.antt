@@ -5,10 +5,9 @@ use mathlib.Core.List.{List}
 use mathlib.Core.Path.{◌≡◌, refl}
 use Rattle.entering.specs.Lined as E
 use Rattle.entering.specs.declared.Lined.{Lined}
-use Rattle.error.specs.Told.{value}
+use Rattle.error.specs.Told.{told, value}
 use Rattle.marks.specs.Marks.{Valid}
 use Rattle.marks.specs.declared.Present.{Present}
-use Rattle.play.specs.Plays.{told_play}
 use Rattle.requests.specs.Players.{Lawful}
 use Rattle.requests.specs.Presents.{player_by, RanksAlone}
 use Rattle.requests.proofs.Along.{Follows}
@@ -38,5 +37,5 @@ pub boxed-valid : (s : Lined) → E.Valid s → (p : Present) → Valid p → Va
 boxed-valid s h p g = record { inside = record { present = g; line = h.line } }
 
 -- "An accepted request may change the rank, and nothing else, of a voice that it doesn't get"
-pub ranks-alone : (s : Sounder) (bytes : List ℕ) (r : Request) (i : ℕ) → ValidSounder s → told_play (played s.state bytes r).outcome ≡ value i → RanksAlone s.state.present bytes r i
+pub ranks-alone : (s : Sounder) (bytes : List ℕ) (r : Request) (i : ℕ) → ValidSounder s → told (played s.state bytes r).outcome ≡ value i → RanksAlone s.state.present bytes r i
 ranks-alone s bytes r i h e = P.ranks-alone s.state.present bytes r i h.inside.present e

@@ -1,5 +1,6 @@
 -- What stands beside the voices after a stop and a bank is what settling leaves, and a fade that is refused before its entry start changes
 -- nothing. Assumes nothing.
+use Rattle.std.specs.Prelude.{Err, Ok}
 use Prim.Native.Nat.{ℕ, zero, suc}
 use mathlib.Core.Path.{◌≡◌, refl, ap, sym, ◌∙◌}
 use mathlib.Core.Bool.{Bool, true, false, cond}
@@ -12,7 +13,7 @@ use Rattle.config.specs.declared.AudioConfig.{AudioConfig}
 use Rattle.entering.specs.declared.Lined.{Lined}
 use Rattle.envelope.specs.Adsrs as A
 use Rattle.envelope.specs.declared.AdsrSpec.{AdsrSpec}
-use Rattle.error.specs.Told.{Told, value, refused, refusal}
+use Rattle.error.specs.Told.{told, Told, value, refused, refusal}
 use Rattle.laws.specs.Lists.{All, map_first}
 use Rattle.laws.proofs.Bools.{never}
 use Rattle.laws.proofs.Lists.{length-map_first, all_replicate}
@@ -20,9 +21,7 @@ use Rattle.marks.specs.Marks.{Valid, beside, settled}
 use Rattle.marks.specs.declared.Present.{Present}
 use Rattle.marks.proofs.Laws.{silent-settled}
 use Rattle.mixer.specs.Mixers as M
-use Rattle.mixer.specs.Mixers.{told_outcome}
 use Rattle.mixer.specs.declared.Mixer.{Mixer}
-use Rattle.mixer.specs.declared.Outcome.TheVariants as O
 use Rattle.mixer.specs.declared.VoiceStealingPolicy.{VoiceStealingPolicy}
 use Rattle.play.specs.Fades as F
 use Rattle.play.proofs.Laws.{OnOrNot, turned, began, on-or-not}
@@ -63,7 +62,7 @@ opened-silent n config policy = go (ltb 16 n) (ltb 65537 config.sample_rate_hz) 
     all rate = all_replicate Silent 16 (silent_voice rate) (silent rate)
 
     go : (a b c : Bool)
-        → All Silent (cond a (M.not_opened 1) (cond b (M.not_opened 2) (cond c (M.not_opened 3) (record { outcome = O.Done; mixer = M.fresh n config policy })))).mixer.voices
+        → All Silent (cond a (M.not_opened 1) (cond b (M.not_opened 2) (cond c (M.not_opened 3) (record { outcome = (Ok tt); mixer = M.fresh n config policy })))).mixer.voices
     go true b c = all 0
     go false true c = all 0
     go false false true = all 0
@@ -98,17 +97,17 @@ banked-settled s rate count len h = bank-settled s.present (bank_of rate count l
 
 -- "A refusal changes nothing": 5 to 9, which come before voice 0 is released (`play` refused-before)
 pub faded-unchanged : (s : Lined) (bytes : List ℕ) (id ms : ℕ) (adsr : AdsrSpec) (n : ℕ) → Valid s.present
-    → F.faded_under true s.present.mixer bytes id ms adsr ≡ M.unchanged s.present.mixer n → faded s bytes id ms adsr ≡ changed_box (O.Refused (refusal n)) s
-faded-unchanged s bytes id ms adsr n h e = rw e (ap (λ (p : Present). changed_box (O.Refused (refusal n)) (with_present s p)) h.quiet)
+    → F.faded_under true s.present.mixer bytes id ms adsr ≡ M.unchanged s.present.mixer n → faded s bytes id ms adsr ≡ changed_box (Err (refusal n)) s
+faded-unchanged s bytes id ms adsr n h e = rw e (ap (λ (p : Present). changed_box (Err (refusal n)) (with_present s p)) h.quiet)
 
 -- 10, 15 and 16, which come at its entry start (`play` refused-there): voice 0 is released, and nothing stands beside it where it is inaudible then
 pub faded-released : (s : Lined) (bytes : List ℕ) (id ms : ℕ) (adsr : AdsrSpec) (n : ℕ)
     → F.faded_under true s.present.mixer bytes id ms adsr ≡ M.unchanged (F.first_released s.present.mixer) n
-    → faded s bytes id ms adsr ≡ changed_box (O.Refused (refusal n)) (with_present s (settled (beside (F.first_released s.present.mixer) s.present.marks)))
+    → faded s bytes id ms adsr ≡ changed_box (Err (refusal n)) (with_present s (settled (beside (F.first_released s.present.mixer) s.present.marks)))
 faded-released s bytes id ms adsr n e = rw e
 
 -- the second fade call: "being turned down changes nothing at all", whatever the number
-pub on-refused : (s : Lined) (bytes : List ℕ) (id ms : ℕ) (adsr : AdsrSpec) (n : ℕ) → Valid s.present → told_outcome (faded_on s bytes id ms adsr).outcome ≡ refused n
+pub on-refused : (s : Lined) (bytes : List ℕ) (id ms : ℕ) (adsr : AdsrSpec) (n : ℕ) → Valid s.present → told (faded_on s bytes id ms adsr).outcome ≡ refused n
     → (faded_on s bytes id ms adsr).sounder.state ≡ s
 on-refused s bytes id ms adsr n h e = by_call (on-or-not s.present.mixer bytes id ms adsr)
   where
@@ -117,4 +116,4 @@ on-refused s bytes id ms adsr n h e = by_call (on-or-not s.present.mixer bytes i
 
     by_call : OnOrNot m (F.faded_under true m bytes id ms adsr) (F.faded_on m bytes id ms adsr) → (faded_on s bytes id ms adsr).sounder.state ≡ s
     by_call (turned k f o) = rw f (ap (with_present s) h.quiet)
-    by_call (began d f) = never (ap turned_down (sym (ap told_outcome d) ∙ e))
+    by_call (began d f) = never (ap turned_down (sym (ap told d) ∙ e))

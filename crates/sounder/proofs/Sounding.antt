@@ -17,7 +17,7 @@ use Rattle.entering.specs.declared.Lined.{Lined}
 use Rattle.entering.proofs.Fates.{not-given, enters-in}
 use Rattle.entering.proofs.Free.{is-first}
 use Rattle.entering.proofs.Laws.{none-enters, enter-keeps}
-use Rattle.error.specs.Told.{Told, value, refused}
+use Rattle.error.specs.Told.{told, Told, value, refused}
 use Rattle.frame.specs.Fades.{next_t, voice_at}
 use Rattle.frame.specs.Frames.{mono_frame_by, duty_frame_by, stereo_frame_by, enveloped, sampled}
 use Rattle.frame.specs.Lasting.{frames_left, after_all}
@@ -32,7 +32,7 @@ use Rattle.marks.specs.declared.Mark.{Mark}
 use Rattle.marks.specs.declared.Present.{Present}
 use Rattle.mixer.specs.Mixers.{with_voices}
 use Rattle.mixer.specs.declared.Mixer.{Mixer}
-use Rattle.play.specs.Plays.{told_play, played_under}
+use Rattle.play.specs.Plays.{played_under}
 use Rattle.requests.specs.Presents.{started_in, played_present}
 use Rattle.spans.proofs.Fades.{enter-fade}
 use Rattle.start.specs.declared.Request.{Request}
@@ -187,7 +187,7 @@ one_left m k e = by-active m.crossfade_active refl
 -- a request leaves which call began the last fade
 played-on : (p : Present) (bytes : List ℕ) (r : Request) → (played_present p bytes r).present.marks.sounds_on ≡ p.marks.sounds_on
 unfolding settled
-played-on p bytes r = go (told_play (played_under true p bytes r).outcome)
+played-on p bytes r = go (told (played_under true p bytes r).outcome)
   where
     go : (t : Told ℕ) → (started_in (played_under true p bytes r).mixer p.marks t).marks.sounds_on ≡ p.marks.sounds_on
     go (value i) = refl

@@ -1,5 +1,6 @@
 -- Each of document 01's calls of the box does to its fade what document 01's does, and the second fade call begins one or does nothing; so a fade of
 -- either call takes its count of frames. Assumes nothing.
+use Rattle.std.specs.Prelude.{Result}
 use Prim.Native.Nat.{ℕ}
 use mathlib.Core.Path.{◌≡◌, refl, ap, sym, ◌∙◌}
 use mathlib.Core.Bool.{true, false}
@@ -8,16 +9,14 @@ use lib.ListN.{replicate}
 use Rattle.config.specs.Config.{fade_step}
 use Rattle.entering.specs.declared.Lined.{Lined}
 use Rattle.envelope.specs.declared.AdsrSpec.{AdsrSpec}
-use Rattle.error.specs.Told.{passed}
+use Rattle.error.specs.Told.{told, passed}
 use Rattle.frame.specs.Fades.{advanced}
 use Rattle.frame.specs.Lasting.{frames_left, SameFade, Step, frame, call, Lawful, after_all, unbroken, Lasts}
 use Rattle.laws.specs.Runs.{after}
 use Rattle.laws.proofs.Bools.{never}
 use Rattle.marks.specs.Marks.{settled}
-use Rattle.mixer.specs.Mixers.{told_outcome}
 use Rattle.mixer.specs.declared.Changed.{Changed}
 use Rattle.mixer.specs.declared.Mixer.{Mixer}
-use Rattle.mixer.specs.declared.Outcome.{Outcome}
 use Rattle.play.specs.Fades as F
 use Rattle.play.specs.Fades.{faded_under}
 use Rattle.play.specs.Plays.{played}
@@ -35,6 +34,7 @@ use Rattle.sounder.specs.Requests.{player, played_all}
 use Rattle.sounder.specs.Sounders.{ValidSounder, boxed}
 use Rattle.sounder.specs.Steps.{frame_step, Lent, framed, Call, by01, fade_on, leave, withdraw, called01, called, goes_on, box, FadeTakes, FadeOnTakes}
 use Rattle.sounder.specs.declared.Sounder.{Sounder}
+use Rattle.error.specs.declared.AudioError.{AudioError}
 
 -- a frame advances the fade, whoever goes in before it
 by_kind : (f : Frame) (bytes : List ℕ) (s : Lined) → SameFade (frame_step f bytes s).present.mixer (advanced s.present.mixer)
@@ -80,7 +80,7 @@ on-leaves bytes id ms adsr s g = by_call (on-or-not s.state.present.mixer bytes 
     by_call : OnOrNot s.state.present.mixer (faded_under true s.state.present.mixer bytes id ms adsr) (F.faded_on s.state.present.mixer bytes id ms adsr)
         → SameFade (F.faded_on s.state.present.mixer bytes id ms adsr).mixer s.state.present.mixer
     by_call (turned n e o) = rw e (same _)
-    by_call (began d e) = never (sym (ap (λ (o : Outcome). turned_down (told_outcome o)) d) ∙ g)
+    by_call (began d e) = never (sym (ap (λ (o : Result (Unit {0}) AudioError). turned_down (told o)) d) ∙ g)
 
 leaves : (c : Call) (s : Sounder) → goes_on c s ≡ true → SameFade (called c s).state.present.mixer s.state.present.mixer
 leaves (by01 c) s g = (S.lawful stepper by-rule).leaves c s g
@@ -96,23 +96,23 @@ module _ (s : Sounder) (bytes : List ℕ) (id ms : ℕ) (adsr : AdsrSpec) where
   abbrev Begun : Mixer → Type 0
   Begun after = S.Begins after (F.first_released s.state.present.mixer) (fade_step ms s.state.present.mixer.config.sample_rate_hz)
 
-  old-begins : told_outcome (faded_under true s.state.present.mixer bytes id ms adsr).outcome ≡ passed → Begun (faded_under true s.state.present.mixer bytes id ms adsr).mixer
+  old-begins : told (faded_under true s.state.present.mixer bytes id ms adsr).outcome ≡ passed → Begun (faded_under true s.state.present.mixer bytes id ms adsr).mixer
   unfolding settled
   old-begins a = S.fade-begins stepper by-rule s bytes id ms adsr (fade-accepted true false s.state.present.mixer bytes id ms adsr a)
 
-  on-begins : told_outcome (F.faded_on s.state.present.mixer bytes id ms adsr).outcome ≡ passed → Begun (F.faded_on s.state.present.mixer bytes id ms adsr).mixer
+  on-begins : told (F.faded_on s.state.present.mixer bytes id ms adsr).outcome ≡ passed → Begun (F.faded_on s.state.present.mixer bytes id ms adsr).mixer
   on-begins a = by_call (on-or-not s.state.present.mixer bytes id ms adsr)
     where
       by_call : OnOrNot s.state.present.mixer (faded_under true s.state.present.mixer bytes id ms adsr) (F.faded_on s.state.present.mixer bytes id ms adsr)
           → Begun (F.faded_on s.state.present.mixer bytes id ms adsr).mixer
-      by_call (turned n e o) = never (sym (ap turned_down a) ∙ ap (λ (c : Changed). turned_down (told_outcome c.outcome)) e)
+      by_call (turned n e o) = never (sym (ap turned_down a) ∙ ap (λ (c : Changed). turned_down (told c.outcome)) e)
       by_call (began d e) = rw e (old-begins (rw e at a))
 
-  pub fade-takes : told_outcome (faded s.state bytes id ms adsr).outcome ≡ passed → FadeTakes s bytes id ms adsr
+  pub fade-takes : told (faded s.state bytes id ms adsr).outcome ≡ passed → FadeTakes s bytes id ms adsr
   unfolding settled
   fade-takes a = let f = old-begins a in S.begun-takes box box-lawful s _ ms _ f.voice f.same
 
-  pub fade-on-takes : told_outcome (faded_on s.state bytes id ms adsr).outcome ≡ passed → FadeOnTakes s bytes id ms adsr
+  pub fade-on-takes : told (faded_on s.state bytes id ms adsr).outcome ≡ passed → FadeOnTakes s bytes id ms adsr
   unfolding settled
   fade-on-takes a = let f = on-begins a in S.begun-takes box box-lawful s _ ms _ f.voice f.same
 

@@ -1,4 +1,5 @@
 -- Each definition keeps a state valid; so what a step of the parts promises, the call promises of the box. Assumes nothing.
+use Rattle.std.specs.Prelude.{Err, None, Ok, Result, Some}
 use Prim.Native.Nat.{ℕ}
 use mathlib.Core.Path.{◌≡◌, refl, ap, ◌∙◌}
 use native.Mathlib.Omega.{arith}
@@ -26,15 +27,11 @@ use Rattle.marks.proofs.Starts.{begun-order}
 use Rattle.mixer.specs.Mixers as M
 use Rattle.mixer.specs.declared.Changed.{Changed}
 use Rattle.mixer.specs.declared.Mixer.{Mixer}
-use Rattle.mixer.specs.declared.Outcome.{Outcome}
-use Rattle.mixer.specs.declared.Outcome.TheVariants as O
-use Rattle.mixer.specs.declared.VoiceRead.TheVariants as R
 use Rattle.requests.specs.Presents.{ValidPresentPlayed}
 use Rattle.requests.specs.declared.PresentPlayed.{PresentPlayed}
 use Rattle.voice.specs.Voices.{audible, with_pan, silent_voice}
 use Rattle.voice.specs.declared.Voice.{Voice}
 use Rattle.waiting.specs.Lines as W
-use Rattle.waiting.specs.declared.Kept.TheVariants as K
 use Rattle.waiting.specs.declared.Line.{Line}
 use Rattle.waiting.specs.declared.LineChanged.{LineChanged}
 use Rattle.sounder.specs.Sounders.{ValidSounder, ValidSounderChanged, ValidSounderPlayed, unwaited, with_present, boxed, changed_box, played_box}
@@ -42,6 +39,7 @@ use Rattle.sounder.specs.Calls.{opened_two, default_sounder, panned, with_master
 use Rattle.sounder.specs.declared.SounderChanged.{SounderChanged}
 use Rattle.sounder.proofs.Heard.{Others, HeardBy}
 use Rattle.sounder.proofs.Settled.{silent}
+use Rattle.error.specs.declared.AudioError.{AudioError}
 
 -- a box whose line stays
 kept_line : {s : Lined} {p : Present} → E.Valid s → Valid p → ValidSounder (boxed (with_present s p))
@@ -50,7 +48,7 @@ kept_line h g = record { inside = record { present = g; line = h.line } }
 -- ---- opening
 pub made-opened : {x c : Changed} {k : Marks} {l : Line} → Made M.ValidChanged x c → All (λ v. audible v ≡ false) x.mixer.voices → k ≡ no_marks true false
     → Made W.Valid (W.line_of []) l
-    → Made ValidSounderChanged (changed_box x.outcome (unwaited (beside x.mixer (no_marks true false)))) (changed_box c.outcome (E.lined (beside c.mixer k) K.Nothing l))
+    → Made ValidSounderChanged (changed_box x.outcome (unwaited (beside x.mixer (no_marks true false)))) (changed_box c.outcome (E.lined (beside c.mixer k) None l))
 made-opened {c = c} h a e n =
     record {
       same = rw (e, h.same, n.same);
@@ -79,7 +77,7 @@ panned-alike m i pan = by_place (ltb i m.n)
     v : Voice
     v = get_or m.voices i (silent_voice 0)
 
-    by_place : (t : Bool) → map audible (M.panned_at m i pan (cond t (R.Voice v) R.None)).voices ≡ map audible m.voices
+    by_place : (t : Bool) → map audible (M.panned_at m i pan (cond t (Some v) None)).voices ≡ map audible m.voices
     by_place true = map-set_same audible m.voices i (with_pan v pan) (silent_voice 0) (pan-alike v pan)
     by_place false = refl
 
@@ -122,14 +120,14 @@ pub made-relined : {s : Lined} {x c : LineChanged} → E.Valid s → Made W.Vali
 made-relined {s} h g = record { same = ap (relined s) g.same; valid = record { inside = record { present = h.present; line = g.valid } } }
 
 -- ---- a fade, of either call
-fade-length : (on : Bool) (o : Outcome) (k : Marks) → length (fade_marks on o k).voices ≡ length k.voices
-fade-length on O.Done k = marked-length 1 started_mark k
-fade-length on (O.Refused e) k = refl
+fade-length : (on : Bool) (o : Result (Unit {0}) AudioError) (k : Marks) → length (fade_marks on o k).voices ≡ length k.voices
+fade-length on (Ok tt) k = marked-length 1 started_mark k
+fade-length on (Err e) k = refl
 
-fade-order : (on : Bool) (p : Present) (o : Outcome) (after : Mixer) → Valid p → HeardBy o p.mixer after
+fade-order : (on : Bool) (p : Present) (o : Result (Unit {0}) AudioError) (after : Mixer) → Valid p → HeardBy o p.mixer after
     → Ordered (map audible after.voices) (fade_marks on o p.marks).voices
-fade-order on p O.Done after h sub = begun-order h 1 (omega arith) after sub
-fade-order on p (O.Refused e) after h sub = fewer-order h.order sub
+fade-order on p (Ok tt) after h sub = begun-order h 1 (omega arith) after sub
+fade-order on p (Err e) after h sub = fewer-order h.order sub
 
 -- what the part gave keeps the order
 pub faded-order : (on : Bool) {p : Present} {x c : Changed} → Valid p → Made M.ValidChanged x c → HeardBy x.outcome p.mixer x.mixer

@@ -1,6 +1,6 @@
 -- What each call makes of a state of the present rules: document 01's step of the mixer, and what then stands beside the voices. But for leaving and
 -- withdrawing, requests wait as before: "A stop or a new bank leaves requests waiting." Assumes nothing.
-use Rattle.std.specs.Prelude.{ℕ, Bool, true, false, List, map}
+use Rattle.std.specs.Prelude.{ℕ, Bool, true, false, List, map, Err, Ok, Result}
 use Rattle.config.specs.Config.{default_duty}
 use Rattle.config.specs.declared.AudioConfig.{AudioConfig}
 use Rattle.entering.specs.Lined.{lined}
@@ -10,8 +10,6 @@ use Rattle.marks.specs.Marks.{no_marks, started_mark, marked_at, settled, beside
 use Rattle.marks.specs.declared.Marks.{Marks}
 use Rattle.mixer.specs.Mixers as M
 use Rattle.mixer.specs.declared.Changed.{Changed}
-use Rattle.mixer.specs.declared.Outcome.{Outcome}
-use Rattle.mixer.specs.declared.Outcome.TheVariants as O
 use Rattle.mixer.specs.declared.VoiceStealingPolicy.{VoiceStealingPolicy}
 use Rattle.play.specs.Fades as F
 use Rattle.play.specs.Plays as P
@@ -25,6 +23,7 @@ use Rattle.waiting.specs.declared.LineChanged.{LineChanged}
 use Rattle.sounder.specs.Sounders.{unwaited, with_present, changed_box, played_box}
 use Rattle.sounder.specs.declared.SounderChanged.{SounderChanged}
 use Rattle.sounder.specs.declared.SounderPlayed.{SounderPlayed}
+use Rattle.error.specs.declared.AudioError.{AudioError}
 
 -- Nothing stands beside any voice, and "gain 255 shall hand the sample through": the master's too, also where opening is refused.
 abbrev pub opened : ℕ → AudioConfig → VoiceStealingPolicy → SounderChanged
@@ -51,9 +50,9 @@ abbrev pub stopped : Lined → Lined
 stopped s = let p = s.present in with_present s (beside (M.stopped p.mixer) (no_marks true p.marks.sounds_on))
 
 -- "Setting a bank makes .. all voices silent"; "A refusal changes nothing"
-abbrev pub bank_marks : Outcome → Marks → Marks
-bank_marks O.Done k = no_marks k.master k.sounds_on
-bank_marks (O.Refused e) k = k
+abbrev pub bank_marks : Result (Unit {0}) AudioError → Marks → Marks
+bank_marks (Ok tt) k = no_marks k.master k.sounds_on
+bank_marks (Err e) k = k
 
 abbrev pub banked : Lined → ℕ → ℕ → ℕ → SounderChanged
 banked s rate count len =
@@ -70,9 +69,9 @@ abbrev pub begun_by : Bool → Marks → Marks
 begun_by on k = record { voices = k.voices; master = k.master; sounds_on = on }
 
 -- "A fade starts voice 1", and the last fade is this call's
-abbrev pub fade_marks : Bool → Outcome → Marks → Marks
-fade_marks on O.Done k = begun_by on (marked_at 1 started_mark k)
-fade_marks on (O.Refused e) k = k
+abbrev pub fade_marks : Bool → Result (Unit {0}) AudioError → Marks → Marks
+fade_marks on (Ok tt) k = begun_by on (marked_at 1 started_mark k)
+fade_marks on (Err e) k = k
 
 -- voice 0 was released, and may be inaudible
 abbrev pub faded_by : Bool → Lined → Changed → SounderChanged

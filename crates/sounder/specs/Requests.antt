@@ -1,19 +1,19 @@
 -- Demand 3 of the box of the present rules: it is a box that takes play requests (`requests`). Assumes nothing.
 use Rattle.std.specs.Prelude.{ℕ, List}
 use Rattle.std.proofs.Math.Option.{Option}
-use Rattle.play.specs.Plays.{told_play}
 use Rattle.requests.specs.Players as R
 use Rattle.requests.specs.Slices as L
 use Rattle.start.specs.declared.Request.{Request}
 use Rattle.sounder.specs.Calls.{played}
 use Rattle.sounder.specs.Sounders.{ValidSounder}
 use Rattle.sounder.specs.declared.Sounder.{Sounder}
+use Rattle.error.specs.Told.{told}
 
 abbrev pub player : R.Player Sounder
 player =
     record {
       mixer = λ s. s.state.present.mixer;
-      told = λ s bytes r. told_play (played s.state bytes r).outcome;
+      told = λ s bytes r. told (played s.state bytes r).outcome;
       next = λ s bytes r. (played s.state bytes r).sounder;
     }
 

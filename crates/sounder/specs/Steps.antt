@@ -4,7 +4,6 @@ use Rattle.std.specs.Prelude.{ℕ, Bool, true, List}
 use Rattle.entering.specs.declared.Lined.{Lined}
 use Rattle.envelope.specs.declared.AdsrSpec.{AdsrSpec}
 use Rattle.frame.specs.Lasting.{Box}
-use Rattle.mixer.specs.Mixers.{told_outcome}
 use Rattle.start.specs.declared.Request.{Request}
 use Rattle.steps.specs.Steps as S
 use Rattle.steps.specs.Steps.{Frame, mono, duty, stereo, play, tone, poly_blep, bank, pan, master_gain, stop, fade, look, turned_down, goes_on_from}
@@ -12,6 +11,7 @@ use Rattle.sounder.specs.Calls.{panned, with_master_gain, stopped, banked, playe
 use Rattle.sounder.specs.Frames.{frames}
 use Rattle.sounder.specs.Sounders.{boxed}
 use Rattle.sounder.specs.declared.Sounder.{Sounder}
+use Rattle.error.specs.Told.{told}
 
 -- the box after each, as the call's contract has it
 abbrev pub frame_step : Frame → List ℕ → Lined → Lined
@@ -56,7 +56,7 @@ called (withdraw label) s = (withdrawn_in s.state label).sounder
 -- "where no stop, no other fade comes between", of either call
 abbrev pub goes_on : Call → Sounder → Bool
 goes_on (by01 c) s = goes_on_from c s.state.present.mixer
-goes_on (fade_on bytes id ms adsr) s = turned_down (told_outcome (faded_on s.state bytes id ms adsr).outcome)
+goes_on (fade_on bytes id ms adsr) s = turned_down (told (faded_on s.state bytes id ms adsr).outcome)
 goes_on (leave label r) s = true
 goes_on (withdraw label) s = true
 

@@ -2,24 +2,24 @@
 #![tactic(auto)]
 
 ghost use Rattle.std.specs.Prelude.{◌≡◌, true, length, map};
+ghost use Rattle.error.specs.Told.{told};
 ghost use Rattle.laws.specs.Made.{Made};
 ghost use Rattle.allocate.specs.Allocation.{allocated_oldest, told_place};
-ghost use Rattle.bank.specs.Banks.{payload_under, told_payload, payload_part};
-ghost use Rattle.bank.specs.Entries.{told_entry};
+ghost use Rattle.bank.specs.Banks.{payload_under, payload_part};
 ghost use Rattle.bank.specs.Search.{found_given};
 ghost use Rattle.frame.specs.Lasting.{frames_left};
 ghost use Rattle.mixer.specs.Mixers as M;
 ghost use Rattle.sounder.specs.Sounders.{ValidSounder, ValidSounderChanged, boxed, with_present};
 ghost use Rattle.sounder.specs.Calls.{opened, panned, with_master_gain, stopped, bank_marks, banked, ranks_in};
 
-use allocate::Allocated;
-use bank::{EntryRead, PayloadRead};
+use bank::EffectEntry;
 use config::AudioConfig;
 use entering::Lined;
+use error::AudioError;
 use marks::{Mark, Marks, Present};
-use mixer::{Mixer, Outcome, PanRead, VoiceRead, VoiceStealingPolicy};
-use play::PlayOutcome;
-use waiting::{Kept, Line};
+use mixer::{Mixer, VoiceStealingPolicy};
+use voice::Voice;
+use waiting::Line;
 
 pub mod fills;
 mod lists;
@@ -36,23 +36,23 @@ pub struct Sounder {
 // A box, and whether the call was refused.
 #[derive(Clone, Copy)]
 pub struct SounderChanged {
-    pub outcome: Outcome,
+    pub outcome: Result<(), AudioError>,
     pub sounder: Sounder,
 }
 
 // A box, and the voice that the request got.
 #[derive(Clone, Copy)]
 pub struct SounderPlayed {
-    pub outcome: PlayOutcome,
+    pub outcome: Result<usize, AudioError>,
     pub sounder: Sounder,
 }
 
-fn bank_marks(outcome: Outcome, marks: Marks) -> Marks
+fn bank_marks(outcome: Result<(), AudioError>, marks: Marks) -> Marks
     ensures { result ≡ bank_marks outcome marks }
 {
     match outcome {
-        Outcome::Done => Marks::none(marks.master, marks.sounds_on),
-        Outcome::Refused(_) => marks,
+        Ok(()) => Marks::none(marks.master, marks.sounds_on),
+        Err(_) => marks,
     }
 }
 
@@ -81,7 +81,7 @@ impl Sounder {
         let state = Lined {
             present,
             line: Line::empty(),
-            kept: Kept::Nothing,
+            kept: None,
         };
         SounderChanged {
             outcome,
@@ -147,7 +147,7 @@ impl Sounder {
         m.is_playing()
     }
 
-    pub fn voice(self, idx: usize) -> VoiceRead
+    pub fn voice(self, idx: usize) -> Option<Voice>
         requires { ValidSounder self }
         ensures { result ≡ M.voice_read self.state.present.mixer idx }
     {
@@ -166,7 +166,7 @@ impl Sounder {
         ranks_of(marks)
     }
 
-    pub fn voice_pan(self, idx: usize) -> PanRead
+    pub fn voice_pan(self, idx: usize) -> Option<u8>
         requires { ValidSounder self }
         ensures { result ≡ M.pan_read self.state.present.mixer idx }
     {
@@ -227,16 +227,16 @@ impl Sounder {
         }
     }
 
-    pub fn allocate_voice(self, priority: u8) -> Allocated
+    pub fn allocate_voice(self, priority: u8) -> Option<usize>
         requires { ValidSounder self }
         ensures { told_place result ≡ allocated_oldest self.state.present priority }
     {
         allocate::allocate_oldest(self.state.present, priority)
     }
 
-    pub fn find_by_id(self, bytes: &[u8], id: u16) -> EntryRead
+    pub fn find_by_id(self, bytes: &[u8], id: u16) -> Result<EffectEntry, AudioError>
         requires { ValidSounder self }
-        ensures { told_entry result ≡ found_given self.state.present.mixer.bank bytes.now id }
+        ensures { told result ≡ found_given self.state.present.mixer.bank bytes.now id }
     {
         let p = self.state.present;
         let m = p.mixer;
@@ -244,8 +244,8 @@ impl Sounder {
         bank::find_by_id(bank, bytes, id)
     }
 
-    pub fn payload_number(self, bytes: &[u8], offset: u32, len: u32) -> PayloadRead
-        ensures { told_payload result ≡ payload_under true self.state.present.mixer.bank bytes.now offset len }
+    pub fn payload_number(self, bytes: &[u8], offset: u32, len: u32) -> Result<(), AudioError>
+        ensures { told result ≡ payload_under true self.state.present.mixer.bank bytes.now offset len }
     {
         let p = self.state.present;
         let m = p.mixer;

@@ -10,24 +10,25 @@ ghost use Rattle.sounder.specs.Calls.{played, fade_marks, faded_by, faded, faded
 use super::{Sounder, SounderChanged, SounderPlayed};
 use entering::Lined;
 use envelope::AdsrSpec;
+use error::AudioError;
 use marks::{Marks, Present};
-use mixer::{Changed, Outcome};
+use mixer::Changed;
 use polyblep::PolyBlepWaveform;
 use start::Request;
 use tone::Waveform;
 
-fn fade_marks(outcome: Outcome, marks: Marks, sounds_on: bool) -> Marks
+fn fade_marks(outcome: Result<(), AudioError>, marks: Marks, sounds_on: bool) -> Marks
     ensures { result ≡ fade_marks sounds_on outcome marks }
 {
     match outcome {
-        Outcome::Done => {
+        Ok(()) => {
             let started = marks.started(1);
             Marks {
                 sounds_on,
                 ..started
             }
         }
-        Outcome::Refused(_) => marks,
+        Err(_) => marks,
     }
 }
 

@@ -8,8 +8,9 @@ ghost use Rattle.waiting.specs.Lines.{in_line, first_of, label_cells};
 use crate::{Sounder, SounderChanged};
 use entering::Lined;
 use envelope::AdsrSpec;
+use error::AudioError;
 use start::Request;
-use waiting::{Kept, LineChanged, NextInLine};
+use waiting::{LineChanged, Waiting};
 
 impl Sounder {
     // What a call made of the line, in its box.
@@ -66,7 +67,7 @@ impl Sounder {
     }
 
     // The next in line, whether or not a voice is free.
-    pub fn next_in_line(self) -> NextInLine
+    pub fn next_in_line(self) -> Option<Waiting>
         requires { ValidSounder self }
         ensures { result ≡ first_of (in_line self.state.line) }
     {
@@ -75,7 +76,7 @@ impl Sounder {
     }
 
     // Why the latest request that was dropped was refused, and its label. Only the next that is dropped changes it.
-    pub fn kept_refusal(self) -> Kept
+    pub fn kept_refusal(self) -> Option<(AudioError, u16)>
         ensures { result ≡ self.state.kept }
     {
         let lined = self.state;

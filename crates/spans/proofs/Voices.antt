@@ -39,7 +39,7 @@ less-one left b h k = (not_last (eqb left 0) refl, on (eqb left forever))
     on true = omega arith
     on false = omega arith
 
-source-lasts : (s : VoiceSource) (b : ℕ) → 1 ≤ b → active_source s ≡ true → suc b ≤ source_lasts s → Goes b (stepped_source s).source
+source-lasts : (s : VoiceSource) (b : ℕ) → 1 ≤ b → active_source s ≡ true → suc b ≤ source_lasts s → Goes b (stepped_source s).voice
 unfolding active_source stepped_source T.stepped_tone B.stepped_voice stepped_fm
 source-lasts S.Idle b h a k = never a
 source-lasts (S.Tone v) b h a k = let l = less-one v.samples_left b h k in rw (a, l.0) (refl, l.1)
@@ -95,9 +95,9 @@ frame-adsr true v = ap (λ (w : Voice). w.adsr) (tick-parts v)
 frame-adsr false v = ap (λ (w : Voice). w.adsr) (tick-parts v)
 
 -- of a voice whose source sounds
-frame-source : (s : Bool) (v : Voice) → active_source v.source ≡ true → (framed s v).source ≡ cond s (stepped_source v.source).source v.source
+frame-source : (s : Bool) (v : Voice) → active_source v.source ≡ true → (framed s v).source ≡ cond s (stepped_source v.source).voice v.source
 unfolding stepped_voice
-frame-source true v a = ap (λ (w : Voice). (stepped_source w.source).source) (tick-parts v) ∙ rw a
+frame-source true v a = ap (λ (w : Voice). (stepped_source w.source).voice) (tick-parts v) ∙ rw a
 frame-source false v a = ap (λ (w : Voice). w.source) (tick-parts v) ∙ rw a
 
 by-envelope : (v : Voice) → A.active v.adsr ≡ true → audible v ≡ true
@@ -162,13 +162,13 @@ module _ (s : Bool) (v : Voice) (b : ℕ) (h : 1 ≤ b) where
   after-idle : v.adsr.phase ≡ P.Idle → audible v ≡ true → suc b ≤ voice_lasts v → Lasts b (framed s v)
   after-idle e u k =
       let a : (framed s v).adsr ≡ v.adsr = frame-adsr s v ∙ idle-ticked v.adsr e in
-      let q = idle-lasts (framed s v) (cond s (stepped_source v.source).source v.source) (ap (λ (x : Adsr). x.phase) a ∙ e) (frame-source s v sounds) in
+      let q = idle-lasts (framed s v) (cond s (stepped_source v.source).voice v.source) (ap (λ (x : Adsr). x.phase) a ∙ e) (frame-source s v sounds) in
       (by-source (framed s v) (rw (frame-source s v sounds) (goes s).0), omega (arith, q, (goes s).1))
     where
       sounds : active_source v.source ≡ true
       sounds = source-sounds v e u
 
-      goes : (t : Bool) → Goes b (cond t (stepped_source v.source).source v.source)
+      goes : (t : Bool) → Goes b (cond t (stepped_source v.source).voice v.source)
       goes true = source-lasts v.source b h sounds (omega (arith, k, idle-lasts v v.source e refl))
       goes false = (sounds, omega (arith, k, idle-lasts v v.source e refl))
 

@@ -1,12 +1,11 @@
 -- What a start gives: a voice that is valid and audible, of the priority asked. Assumes nothing.
+use Rattle.std.specs.Prelude.{None, Option, Some}
 use Prim.Native.Nat.{ℕ, ◌≤◌}
 use mathlib.Core.Path.{◌≡◌, refl}
 use mathlib.Core.Bool.{Bool, true}
 use mathlib.Core.List.{List}
 use borrow.Author.Tests.{le-ltb}
 use Rattle.bank.specs.Banks.{payload_under}
-use Rattle.bank.specs.declared.BankSet.{BankSet}
-use Rattle.bank.specs.declared.BankSet.TheVariants as B
 use Rattle.bank.specs.declared.SoundBank.{SoundBank}
 use Rattle.bank.specs.declared.EffectEntry.{EffectEntry}
 use Rattle.bank.specs.Search.{found_given}
@@ -38,12 +37,12 @@ valid-untriggered rate gain priority source v e h k =
     record { rate = s.rate; source = k; adsr = s.adsr }
 
 -- a start from a bank, by its payload
-module _ (parted : Bool) (bank : BankSet) (b : SoundBank) (bytes : List ℕ) (entry : EffectEntry) (adsr : AdsrSpec) (priority : ℕ) (h : bank ≡ B.Bank b) where
-  pub start-refused : (n : ℕ) → payload_under parted (B.Bank b) bytes entry.offset entry.len ≡ refused n → entry_start_under parted bank bytes entry adsr priority ≡ refused n
+module _ (parted : Bool) (bank : Option SoundBank) (b : SoundBank) (bytes : List ℕ) (entry : EffectEntry) (adsr : AdsrSpec) (priority : ℕ) (h : bank ≡ Some b) where
+  pub start-refused : (n : ℕ) → payload_under parted (Some b) bytes entry.offset entry.len ≡ refused n → entry_start_under parted bank bytes entry adsr priority ≡ refused n
   unfolding entry_start_under
   start-refused n k = rw (h, k)
 
-  pub start-whole : payload_under parted (B.Bank b) bytes entry.offset entry.len ≡ passed → entry_start_under parted bank bytes entry adsr priority ≡ start_at b.sample_rate_hz entry adsr priority
+  pub start-whole : payload_under parted (Some b) bytes entry.offset entry.len ≡ passed → entry_start_under parted bank bytes entry adsr priority ≡ start_at b.sample_rate_hz entry adsr priority
   unfolding entry_start_under
   start-whole k = rw (h, k)
 
@@ -70,27 +69,27 @@ at-heard rate entry adsr priority =
     then-heard priority (started_entry entry.kind entry.param0 entry.param1 rate) _
     (λ source. voice-heard rate entry.default_gain_q8 priority source adsr)
 
-pub entry-heard : (parted : Bool) (bank : BankSet) (bytes : List ℕ) (entry : EffectEntry) (adsr : AdsrSpec) (priority : ℕ) → Heard priority (entry_start_under parted bank bytes entry adsr priority)
+pub entry-heard : (parted : Bool) (bank : Option SoundBank) (bytes : List ℕ) (entry : EffectEntry) (adsr : AdsrSpec) (priority : ℕ) → Heard priority (entry_start_under parted bank bytes entry adsr priority)
 unfolding entry_start_under
-entry-heard parted B.None bytes entry adsr priority = tt
-entry-heard parted (B.Bank b) bytes entry adsr priority =
-    then-heard priority (payload_under parted (B.Bank b) bytes entry.offset entry.len) _ (λ _. at-heard b.sample_rate_hz entry adsr priority)
+entry-heard parted None bytes entry adsr priority = tt
+entry-heard parted (Some b) bytes entry adsr priority =
+    then-heard priority (payload_under parted (Some b) bytes entry.offset entry.len) _ (λ _. at-heard b.sample_rate_hz entry adsr priority)
 
-pub request-heard : (parted : Bool) (bank : BankSet) (bytes : List ℕ) (r : Request) → Heard r.priority (request_start_under parted bank bytes r)
+pub request-heard : (parted : Bool) (bank : Option SoundBank) (bytes : List ℕ) (r : Request) → Heard r.priority (request_start_under parted bank bytes r)
 unfolding request_start_under
 request-heard parted bank bytes r =
     then-heard r.priority (found_given bank bytes r.id) _ (λ entry. entry-heard parted bank bytes entry r.adsr r.priority)
 
 -- ---- the two rules of a payload's refusal differ in its number alone
-pub entry_value : (a b : Bool) (bank : BankSet) (bytes : List ℕ) (entry : EffectEntry) (adsr : AdsrSpec) (priority : ℕ)
+pub entry_value : (a b : Bool) (bank : Option SoundBank) (bytes : List ℕ) (entry : EffectEntry) (adsr : AdsrSpec) (priority : ℕ)
     → value_in (entry_start_under a bank bytes entry adsr priority) ≡ value_in (entry_start_under b bank bytes entry adsr priority)
 unfolding entry_start_under
-entry_value a b B.None bytes entry adsr priority = refl
-entry_value a b (B.Bank k) bytes entry adsr priority =
-    start-value (payload_under a (B.Bank k) bytes entry.offset entry.len) (payload_under b (B.Bank k) bytes entry.offset entry.len) _
-    (payload-value (B.Bank k) bytes entry.offset entry.len a b)
+entry_value a b None bytes entry adsr priority = refl
+entry_value a b (Some k) bytes entry adsr priority =
+    start-value (payload_under a (Some k) bytes entry.offset entry.len) (payload_under b (Some k) bytes entry.offset entry.len) _
+    (payload-value (Some k) bytes entry.offset entry.len a b)
 
-pub request-value : (a b : Bool) (bank : BankSet) (bytes : List ℕ) (r : Request)
+pub request-value : (a b : Bool) (bank : Option SoundBank) (bytes : List ℕ) (r : Request)
     → value_in (request_start_under a bank bytes r) ≡ value_in (request_start_under b bank bytes r)
 unfolding request_start_under
 request-value a b bank bytes r = then-value (found_given bank bytes r.id) _ _ (λ entry. entry_value a b bank bytes entry r.adsr r.priority)

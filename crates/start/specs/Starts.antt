@@ -1,13 +1,10 @@
 -- Document 01, "Voices and the rule for handing them out": what a start puts in. Assumes nothing.
-use Rattle.std.specs.Prelude.{ℕ, Bool, true, false, cond, ltb, List}
+use Rattle.std.specs.Prelude.{ℕ, Bool, true, false, cond, ltb, List, None, Option, Some}
 use Rattle.bank.specs.Banks.{payload_under}
 use Rattle.bank.specs.Search.{found_given}
-use Rattle.bank.specs.declared.BankSet.{BankSet}
-use Rattle.bank.specs.declared.BankSet.TheVariants as B
 use Rattle.bank.specs.declared.EffectEntry.{EffectEntry}
 use Rattle.envelope.specs.Adsrs.{click_spec}
 use Rattle.envelope.specs.declared.AdsrSpec.{AdsrSpec}
-use Rattle.error.specs.Numbers.{number_of}
 use Rattle.error.specs.Told.{Told, value, refused, and_then}
 use Rattle.polyblep.specs.declared.PolyBlepWaveform.{PolyBlepWaveform}
 use Rattle.tone.specs.declared.Waveform.{Waveform}
@@ -16,8 +13,7 @@ use Rattle.voice.specs.Voices.{silent_voice, triggered_voice}
 use Rattle.voice.specs.declared.Voice.{Voice}
 use Rattle.voice.specs.declared.source.VoiceSource.{VoiceSource}
 use Rattle.start.specs.declared.Request.{Request}
-use Rattle.start.specs.declared.EntryStart.{EntryStart}
-use Rattle.start.specs.declared.EntryStart.TheVariants as S
+use Rattle.bank.specs.declared.SoundBank.{SoundBank}
 
 -- a silent voice at this rate with this gain, priority and source, and its envelope, triggered
 unfoldable pub started_voice : ℕ → ℕ → ℕ → VoiceSource → AdsrSpec → Voice
@@ -42,26 +38,22 @@ start_at rate entry adsr priority =
 
 -- "An entry start puts in a silent voice at the bank's rate with the entry's gain, the request's priority and its envelope,
 -- triggered." What its payload fails by, document 01's 4 or document 02's 15 and 16 (`parted`), comes before 10.
-unfoldable pub entry_start_under : Bool → BankSet → List ℕ → EffectEntry → AdsrSpec → ℕ → Told Voice
-entry_start_under parted B.None bytes entry adsr priority = refused 6
-entry_start_under parted (B.Bank b) bytes entry adsr priority =
-    and_then (payload_under parted (B.Bank b) bytes entry.offset entry.len) (λ _. start_at b.sample_rate_hz entry adsr priority)
+unfoldable pub entry_start_under : Bool → Option SoundBank → List ℕ → EffectEntry → AdsrSpec → ℕ → Told Voice
+entry_start_under parted None bytes entry adsr priority = refused 6
+entry_start_under parted (Some b) bytes entry adsr priority =
+    and_then (payload_under parted (Some b) bytes entry.offset entry.len) (λ _. start_at b.sample_rate_hz entry adsr priority)
 
 -- a play request's start: bank, entry search, entry start, in the table's order
-unfoldable pub request_start_under : Bool → BankSet → List ℕ → Request → Told Voice
+unfoldable pub request_start_under : Bool → Option SoundBank → List ℕ → Request → Told Voice
 request_start_under parted bank bytes r =
     and_then (found_given bank bytes r.id) (λ entry. entry_start_under parted bank bytes entry r.adsr r.priority)
 
 -- by document 01
-abbrev pub entry_start : BankSet → List ℕ → EffectEntry → AdsrSpec → ℕ → Told Voice
+abbrev pub entry_start : Option SoundBank → List ℕ → EffectEntry → AdsrSpec → ℕ → Told Voice
 entry_start bank bytes entry adsr priority = entry_start_under false bank bytes entry adsr priority
 
-abbrev pub request_start : BankSet → List ℕ → Request → Told Voice
+abbrev pub request_start : Option SoundBank → List ℕ → Request → Told Voice
 request_start bank bytes r = request_start_under false bank bytes r
-
-abbrev pub told_start : EntryStart → Told Voice
-told_start (S.Voice v) = value v
-told_start (S.Refused e) = refused (number_of e)
 
 -- a voice is given
 abbrev pub starts : Told Voice → Bool
@@ -70,7 +62,7 @@ starts (refused n) = false
 
 -- "A request is sound where no condition that turns down a play request, number 5 left out, holds for it with the engine's bank and the
 -- lent bytes; with no bank set none is sound."
-unfoldable pub sound_request : BankSet → List ℕ → Request → Bool
+unfoldable pub sound_request : Option SoundBank → List ℕ → Request → Bool
 sound_request bank bytes r = starts (request_start bank bytes r)
 
 -- a voice at a rate that an engine can have: "sample rate above 65,537 | 2"

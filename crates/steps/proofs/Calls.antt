@@ -1,4 +1,5 @@
 -- Each call that lets a fade go on leaves its fields; a fade is turned down, or has begun. Assumes nothing.
+use Rattle.std.specs.Prelude.{None, Option, Some}
 use Prim.Native.Nat.{ℕ}
 use mathlib.Core.Path.{◌≡◌, refl, sym, ◌∙◌}
 use mathlib.Core.Bool.{Bool, true, false, cond}
@@ -11,14 +12,12 @@ use Rattle.bank.specs.declared.EffectEntry.{EffectEntry}
 use Rattle.bank.specs.declared.SoundBank.{SoundBank}
 use Rattle.config.specs.Config.{fade_step}
 use Rattle.envelope.specs.declared.AdsrSpec.{AdsrSpec}
-use Rattle.error.specs.Told.{Told, value, refused}
+use Rattle.error.specs.Told.{told, Told, value, refused}
 use Rattle.frame.specs.Lasting.{SameFade}
 use Rattle.laws.proofs.Bools.{never}
-use Rattle.mixer.specs.Mixers.{with_voices, told_outcome, unchanged, voice_read, panned_at, panned, with_master_gain, banked_by, banked}
+use Rattle.mixer.specs.Mixers.{with_voices, unchanged, voice_read, panned_at, panned, with_master_gain, banked_by, banked}
 use Rattle.mixer.specs.declared.Changed.{Changed}
 use Rattle.mixer.specs.declared.Mixer.{Mixer}
-use Rattle.mixer.specs.declared.VoiceRead.{VoiceRead}
-use Rattle.mixer.specs.declared.VoiceRead.TheVariants as R
 use Rattle.play.specs.Fades.{first_released, begun, faded_by, faded_to, faded_under, faded}
 use Rattle.play.specs.Plays.{first_sounding, toned, poly_bleped}
 use Rattle.requests.proofs.One.{rest-one}
@@ -44,9 +43,9 @@ bank-leaves : (m : Mixer) (b : Told SoundBank) → SameFade (banked_by m b).mixe
 bank-leaves m (refused n) = same m
 bank-leaves m (value b) = record { active = refl; t = refl; step = refl }
 
-pan-leaves : (m : Mixer) (i q : ℕ) (v : VoiceRead) → SameFade (panned_at m i q v) m
-pan-leaves m i q (R.Voice v) = record { active = refl; t = refl; step = refl }
-pan-leaves m i q R.None = same m
+pan-leaves : (m : Mixer) (i q : ℕ) (v : Option Voice) → SameFade (panned_at m i q v) m
+pan-leaves m i q (Some v) = record { active = refl; t = refl; step = refl }
+pan-leaves m i q None = same m
 
 gain-leaves : (m : Mixer) (gain : ℕ) → SameFade (with_master_gain m gain) m
 unfolding with_master_gain
@@ -54,8 +53,8 @@ gain-leaves m gain = record { active = refl; t = refl; step = refl }
 
 -- a fade is turned down, and leaves the fade's fields, or it has begun
 pub data Fading (m : Mixer) (ms : ℕ) (c : Changed) : Type 0 where
-  down : turned_down (told_outcome c.outcome) ≡ true → SameFade c.mixer m → Fading m ms c
-  begins : turned_down (told_outcome c.outcome) ≡ false → (v : Voice) → c.mixer ≡ begun (first_released m) v (fade_step ms m.config.sample_rate_hz) → Fading m ms c
+  down : turned_down (told c.outcome) ≡ true → SameFade c.mixer m → Fading m ms c
+  begins : turned_down (told c.outcome) ≡ false → (v : Voice) → c.mixer ≡ begun (first_released m) v (fade_step ms m.config.sample_rate_hz) → Fading m ms c
 
 released-leaves : (m : Mixer) → SameFade (first_released m) m
 unfolding first_released
@@ -78,7 +77,7 @@ fading-by m bytes id ms adsr = by_count (ltb m.n 2)
     by_count false = by-entry (found_given m.bank bytes id)
 
 -- one that is turned down may have released voice 0, and no more
-fade-leaves : (m : Mixer) (ms : ℕ) (c : Changed) → Fading m ms c → turned_down (told_outcome c.outcome) ≡ true → SameFade c.mixer m
+fade-leaves : (m : Mixer) (ms : ℕ) (c : Changed) → Fading m ms c → turned_down (told c.outcome) ≡ true → SameFade c.mixer m
 fade-leaves m ms c (down d f) g = f
 fade-leaves m ms c (begins d v e) g = never (sym d ∙ g)
 

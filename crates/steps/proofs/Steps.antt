@@ -9,12 +9,12 @@ use lib.ListN.{replicate}
 use Rattle.config.specs.Config.{fade_step}
 use Rattle.config.proofs.Laws.{step-least}
 use Rattle.envelope.specs.declared.AdsrSpec.{AdsrSpec}
-use Rattle.error.specs.Told.{passed}
+use Rattle.error.specs.Told.{told, passed}
 use Rattle.frame.specs.Lasting.{fade_count, frames_left, SameFade, Box, Step, frame, call, Lawful, after_all, unbroken, Lasts}
 use Rattle.frame.proofs.Lasting.{Moves, valid-moves, up-some, same_left, lasts}
 use Rattle.laws.specs.Runs.{after}
 use Rattle.laws.proofs.Bools.{never}
-use Rattle.mixer.specs.Mixers.{Valid, told_outcome}
+use Rattle.mixer.specs.Mixers.{Valid}
 use Rattle.mixer.specs.declared.Mixer.{Mixer}
 use Rattle.play.specs.Fades.{first_released, begun, faded}
 use Rattle.requests.specs.Players.{Player, played_all}
@@ -76,7 +76,7 @@ module _ {State : Type 0} (b : Stepper State) (w : ByRule b) where
   lawful = record { advances = w.advances; leaves = λ c s g. both (w.calls c s) (leaves c (b.mixer s) g) }
 
   -- the old fade call, also as one of a box that has other calls too
-  pub fade-begins : (s : State) (bytes : List ℕ) (id ms : ℕ) (adsr : AdsrSpec) → told_outcome (faded (b.mixer s) bytes id ms adsr).outcome ≡ passed
+  pub fade-begins : (s : State) (bytes : List ℕ) (id ms : ℕ) (adsr : AdsrSpec) → told (faded (b.mixer s) bytes id ms adsr).outcome ≡ passed
       → Begins (b.mixer (b.called (fade bytes id ms adsr) s)) (first_released (b.mixer s)) (fade_step ms (b.mixer s).config.sample_rate_hz)
   fade-begins s bytes id ms adsr a = by-fading (fading-by (b.mixer s) bytes id ms adsr)
     where
@@ -85,6 +85,6 @@ module _ {State : Type 0} (b : Stepper State) (w : ByRule b) where
       by-fading (down d f) = never (sym (ap turned_down a) ∙ d)
       by-fading (begins d v e) = record { voice = v; same = rw (← e) (w.calls (fade bytes id ms adsr) s) }
 
-  pub fade-takes : (s : State) (bytes : List ℕ) (id ms : ℕ) (adsr : AdsrSpec) → told_outcome (faded (b.mixer s) bytes id ms adsr).outcome ≡ passed
+  pub fade-takes : (s : State) (bytes : List ℕ) (id ms : ℕ) (adsr : AdsrSpec) → told (faded (b.mixer s) bytes id ms adsr).outcome ≡ passed
       → FadeTakes (box b) s (b.called (fade bytes id ms adsr) s) ms
   fade-takes s bytes id ms adsr a = let f = fade-begins s bytes id ms adsr a in begun-takes (box b) lawful s _ ms _ f.voice f.same

@@ -3,10 +3,10 @@
 use Rattle.std.specs.Prelude.{ℕ, ◌≡◌, Bool, true, false, List}
 use Rattle.config.specs.Config.{fade_step}
 use Rattle.envelope.specs.declared.AdsrSpec.{AdsrSpec}
-use Rattle.error.specs.Told.{Told, value, refused}
+use Rattle.error.specs.Told.{told, Told, value, refused}
 use Rattle.frame.specs.Fades.{advanced}
 use Rattle.frame.specs.Lasting.{fade_count, SameFade, Box, Step, unbroken, Lasts}
-use Rattle.mixer.specs.Mixers.{told_outcome, panned, with_master_gain, stopped, banked}
+use Rattle.mixer.specs.Mixers.{panned, with_master_gain, stopped, banked}
 use Rattle.mixer.specs.declared.Mixer.{Mixer}
 use Rattle.play.specs.Fades.{faded}
 use Rattle.play.specs.Plays.{played, toned, poly_bleped}
@@ -64,7 +64,7 @@ goes_on_from (bank rate count len) m = true
 goes_on_from (pan i q) m = true
 goes_on_from (master_gain gain) m = true
 goes_on_from stop m = false
-goes_on_from (fade bytes id ms adsr) m = turned_down (told_outcome (faded m bytes id ms adsr).outcome)
+goes_on_from (fade bytes id ms adsr) m = turned_down (told (faded m bytes id ms adsr).outcome)
 goes_on_from look m = true
 
 -- ---- a box that has these calls: states that have a mixer's state in them, and the state after each call

@@ -8,7 +8,7 @@ pub const ONE_SHOT: u8 = 1 << 1;
 
 pub const SIGNED: u8 = 1 << 2;
 
-#[derive(Clone, Copy)]
+#[derive(Clone, Copy, Debug, PartialEq, Eq)]
 pub struct Bits {
     pub looped: u8,
     pub one_shot: u8,

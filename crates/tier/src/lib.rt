@@ -2,53 +2,48 @@
 #![tactic(auto)]
 
 ghost use Rattle.std.specs.Prelude.{◌≡◌};
+ghost use Rattle.error.specs.Told.{told};
 ghost use Rattle.tier.specs.Kinds.{kind_of, byte_of};
+
+use error::AudioError;
 
 pub mod flags;
 
-#[derive(Clone, Copy)]
+#[derive(Clone, Copy, Debug, PartialEq, Eq)]
 pub enum EffectKind {
-    Tone,
-    Wavetable,
-    Fm,
-    Pcm8,
-    Adpcm,
-    SigmaDeltaBits,
+    Tone = 0,
+    Wavetable = 1,
+    Fm = 2,
+    Pcm8 = 3,
+    Adpcm = 4,
+    SigmaDeltaBits = 5,
 }
 
 // What a kind byte stands for.
-#[derive(Clone, Copy)]
-pub enum KindRead {
-    Kind(EffectKind),
-    Unknown,
-}
+impl TryFrom<u8> for EffectKind {
+    type Error = AudioError;
 
-impl EffectKind {
-    pub fn from_u8(v: u8) -> KindRead
-        ensures { result ≡ kind_of v }
-    {
+    ghost try_from_gives = { λ v r. told r ≡ kind_of v };
+
+    #[tactic(auto, unfolding(crate::specs::Kinds::kind_of))]
+    fn try_from(v: u8) -> Result<EffectKind, AudioError> {
         match v {
-            0 => KindRead::Kind(EffectKind::Tone),
-            1 => KindRead::Kind(EffectKind::Wavetable),
-            2 => KindRead::Kind(EffectKind::Fm),
-            3 => KindRead::Kind(EffectKind::Pcm8),
-            4 => KindRead::Kind(EffectKind::Adpcm),
-            5 => KindRead::Kind(EffectKind::SigmaDeltaBits),
-            _ => KindRead::Unknown,
+            0 => Ok(EffectKind::Tone),
+            1 => Ok(EffectKind::Wavetable),
+            2 => Ok(EffectKind::Fm),
+            3 => Ok(EffectKind::Pcm8),
+            4 => Ok(EffectKind::Adpcm),
+            5 => Ok(EffectKind::SigmaDeltaBits),
+            _ => Err(AudioError::InvalidEffectKind),
         }
     }
+}
 
-    // The source's `kind as u8`.
-    pub fn as_u8(self) -> u8
-        ensures { result ≡ byte_of self }
-    {
-        match self {
-            EffectKind::Tone => 0,
-            EffectKind::Wavetable => 1,
-            EffectKind::Fm => 2,
-            EffectKind::Pcm8 => 3,
-            EffectKind::Adpcm => 4,
-            EffectKind::SigmaDeltaBits => 5,
-        }
+// The source's `kind as u8`.
+impl From<EffectKind> for u8 {
+    ghost from_gives = { λ kind byte. byte ≡ byte_of kind };
+
+    fn from(kind: EffectKind) -> u8 {
+        kind as u8
     }
 }

@@ -1,10 +1,9 @@
 -- Laws of the tone's definitions. Assumes nothing.
-use Rattle.std.proofs.Common.{◌≡◌, ℕ, ◌*◌, ◌<◌, ◌≤◌, Bool, cond, eqb, refl, arith, w8, SFits, ne_eqb}
-use Rattle.laws.proofs.Signed.{sub-fits}
+use Rattle.std.proofs.Common.{◌≡◌, ℕ, ◌≤◌, Bool, cond, eqb, refl, arith, ne_eqb}
 use Rattle.laws.specs.Durations.{samples_of}
 use Rattle.laws.proofs.Durations.{samples-wrapped}
 use Rattle.tone.specs.Duration.{forever, duration_of}
-use Rattle.tone.specs.Tones.{ramp, stepped_tone}
+use Rattle.tone.specs.Tones.{stepped_tone}
 use Rattle.tone.specs.Blocks.{turned, wave_at}
 use Rattle.tone.specs.declared.ToneVoice.{ToneVoice}
 use Rattle.tone.proofs.Sounding.{Counted}
@@ -13,10 +12,6 @@ use Rattle.tone.proofs.Sounding.{Counted}
 pub duration-samples : (ms rate : ℕ) → ms ≤ 65535 → rate ≤ 65537 → duration_of ms rate ≡ cond (eqb ms 0) forever (samples_of ms rate)
 unfolding duration_of
 duration-samples ms rate h k = rw (samples-wrapped ms rate h k)
-
--- the ramp is a sample
-pub ramp-fits : (x : ℕ) → x < 128 → SFits w8 (ramp x)
-ramp-fits x h = sub-fits (2 * x) 127 (omega arith) (omega arith)
 
 -- ---- requests one after another
 -- the oscillator at another phase, with so many samples left, sounding or not

@@ -1,5 +1,5 @@
 -- Laws that callers cite.
---     Laws      a duration in samples; the ramp is a sample
+--     Laws      a duration in samples; requests one after another
 --     Loops     a loop that writes a wave at phases a step apart: Left, left-start, left-turn, left-end
 --     Sounding  a source that counts its samples down, n requests at once
 pub mod Laws

@@ -4,8 +4,7 @@ use native.Mathlib.Nat.{min-eq_left, min-eq_right}
 use borrow.Author.Tests.{eqb-false}
 use Rattle.laws.specs.Runs.{after, given}
 use Rattle.fixed.specs.Answers.{heard, Filled}
-use Rattle.fixed.specs.declared.Given.{Given}
-use Rattle.fixed.specs.declared.Given.TheVariants as G
+use Rattle.std.specs.Prelude.{Option, Some, None}
 use Rattle.tone.specs.Blocks.{Waved, given_by, less_by}
 use Rattle.tone.specs.Duration.{forever, less_one}
 use Rattle.laws.proofs.Stores.{length-cells, sets-front}
@@ -69,24 +68,24 @@ given-most left n = by-test (eqb left forever)
 
 -- ---- requests
 -- a source at a phase, with so many samples left, sounding or not: what a request makes of it, and what it gives
-pub record Counted {P S : Type 0} (move : P → P) (wave : P → ℤ) (at : P → ℕ → Bool → S) (step : S → S) (gives : S → Given) (active : S → Bool) : Type 0 where
+pub record Counted {P S : Type 0} (move : P → P) (wave : P → ℤ) (at : P → ℕ → Bool → S) (step : S → S) (gives : S → Option ℤ) (active : S → Bool) : Type 0 where
   pub moves : (p : P) (left : ℕ) → 0 < left → step (at p left true) ≡ at (move p) (less_one left) true
-  pub sample : (p : P) (left : ℕ) → 0 < left → gives (at p left true) ≡ G.Sample (wave p)
+  pub sample : (p : P) (left : ℕ) → 0 < left → gives (at p left true) ≡ Some (wave p)
   pub ends : (p : P) → step (at p 0 true) ≡ at p 0 false
-  pub end : (p : P) → gives (at p 0 true) ≡ G.None
+  pub end : (p : P) → gives (at p 0 true) ≡ None
   pub rests : (p : P) (left : ℕ) → step (at p left false) ≡ at p left false
-  pub none : (p : P) (left : ℕ) → gives (at p left false) ≡ G.None
+  pub none : (p : P) (left : ℕ) → gives (at p left false) ≡ None
   pub flag : (p : P) (left : ℕ) (a : Bool) → active (at p left a) ≡ a
 
-abbrev pub run : {S : Type 0} → (S → S) → (S → Given) → ℕ → S → List Given
+abbrev pub run : {S : Type 0} → (S → S) → (S → Option ℤ) → ℕ → S → List (Option ℤ)
 run step gives n s = given step (λ s. gives s ∷ []) n s
 
 -- n requests at once: the source after them, and the cells
-pub record Block {S : Type 0} (step : S → S) (gives : S → Given) (s : S) (n : ℕ) (cells : List ℤ) (next : S) (count : ℕ) (filled : List ℤ) : Type 0 where
+pub record Block {S : Type 0} (step : S → S) (gives : S → Option ℤ) (s : S) (n : ℕ) (cells : List ℤ) (next : S) (count : ℕ) (filled : List ℤ) : Type 0 where
   pub same : next ≡ after step n s
   pub given : Filled (run step gives n s) cells count filled
 
-module _ {P S : Type 0} {move : P → P} {wave : P → ℤ} {at : P → ℕ → Bool → S} {step : S → S} {gives : S → Given} {active : S → Bool} (c : Counted move wave at step gives active) where
+module _ {P S : Type 0} {move : P → P} {wave : P → ℤ} {at : P → ℕ → Bool → S} {step : S → S} {gives : S → Option ℤ} {active : S → Bool} (c : Counted move wave at step gives active) where
   pub resting : (n : ℕ) (p : P) (left : ℕ) → after step n (at p left false) ≡ at p left false
   unfolding after
   resting zero p left = refl

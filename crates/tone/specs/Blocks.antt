@@ -1,15 +1,14 @@
 -- Inner: requests for samples one after another, a block of them at once. Assumes nothing.
-use Rattle.std.specs.Prelude.{◌≡◌, ℕ, ◌+◌, ◌-◌, ◌%◌, ◌^◌, min, cond, List, [], ◌∷◌, ℤ, ◌==◌}
+use Rattle.std.specs.Prelude.{◌≡◌, ℕ, ◌+◌, ◌-◌, ◌%◌, ◌^◌, min, cond, List, [], ◌∷◌, ℤ, ◌==◌, Option}
 use Rattle.std.proofs.lemmas.List.Edits.{sets}
 use Rattle.laws.specs.Runs.{after, given}
 use Rattle.fixed.specs.Answers.{Filled}
 use Rattle.fixed.specs.Fixed.{index_of}
-use Rattle.fixed.specs.declared.Given.{Given}
+use Rattle.fixed.specs.declared.Step.{Step}
 use Rattle.tone.specs.Duration.{forever}
 use Rattle.tone.specs.Tones.{wave, stepped_tone}
 use Rattle.tone.specs.declared.ToneVoice.{ToneVoice}
 use Rattle.tone.specs.declared.Waveform.{Waveform}
-use Rattle.tone.specs.declared.blocks.ToneFilled.{ToneFilled}
 
 -- n samples fewer, unless the source never ends
 unfoldable pub less_by : ℕ → ℕ → ℕ
@@ -23,10 +22,10 @@ given_by left n = cond (left == forever) n (min left n)
 abbrev pub tone_after : ℕ → ToneVoice → ToneVoice
 tone_after n v = after (λ v. (stepped_tone v).voice) n v
 
-abbrev pub tone_run : ℕ → ToneVoice → List Given
+abbrev pub tone_run : ℕ → ToneVoice → List (Option ℤ)
 tone_run n v = given (λ v. (stepped_tone v).voice) (λ v. (stepped_tone v).given ∷ []) n v
 
-pub record ToneBlock (v : ToneVoice) (n : ℕ) (cells : List ℤ) (r : ToneFilled) (filled : List ℤ) : Type 0 where
+pub record ToneBlock (v : ToneVoice) (n : ℕ) (cells : List ℤ) (r : Step ToneVoice ℕ) (filled : List ℤ) : Type 0 where
   pub voice : r.voice ≡ tone_after n v
   pub given : Filled (tone_run n v) cells r.given filled
 

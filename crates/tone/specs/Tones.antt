@@ -1,11 +1,10 @@
 -- The tone: its waveforms at an index, and what each call makes of the oscillator. Assumes nothing.
-use Rattle.std.specs.Prelude.{ℕ, ◌+◌, ◌-◌, ◌*◌, ◌/◌, ◌%◌, ◌^◌, true, false, cond, ℤ, pos, ◌-ℤ◌, neg_ℤ, ◌==◌, nat_lt}
+use Rattle.std.specs.Prelude.{ℕ, ◌+◌, ◌-◌, ◌*◌, ◌/◌, ◌%◌, ◌^◌, true, false, cond, ℤ, pos, ◌-ℤ◌, neg_ℤ, ◌==◌, nat_lt, Option, Some, None}
 use Rattle.fixed.specs.Fixed.{increment, index_of, sine}
-use Rattle.fixed.specs.declared.Given.TheVariants as G
+use Rattle.fixed.specs.declared.Step.{Step}
 use Rattle.tone.specs.Duration.{duration_of, less_one}
 use Rattle.tone.specs.declared.ToneParams.{ToneParams}
 use Rattle.tone.specs.declared.ToneVoice.{ToneVoice}
-use Rattle.tone.specs.declared.ToneStep.{ToneStep}
 use Rattle.tone.specs.declared.Waveform.{Waveform}
 use Rattle.tone.specs.declared.Waveform.TheVariants as W
 
@@ -64,10 +63,10 @@ advanced_tone v =
     }
 
 -- a request: none while inactive; none at the end; else the wave at the phase's index
-unfoldable pub stepped_tone : ToneVoice → ToneStep
+unfoldable pub stepped_tone : ToneVoice → Step ToneVoice (Option ℤ)
 stepped_tone v =
     cond v.active
     (cond (v.samples_left == 0)
-    (record { voice = ended_tone v; given = G.None })
-    (record { voice = advanced_tone v; given = G.Sample (wave v.waveform (index_of v.phase)) }))
-    (record { voice = v; given = G.None })
+    (record { voice = ended_tone v; given = None })
+    (record { voice = advanced_tone v; given = Some (wave v.waveform (index_of v.phase)) }))
+    (record { voice = v; given = None })

@@ -5,22 +5,18 @@ use Prim.Native.Nat.{ℕ, ◌≤◌}
 use Rattle.envelope.specs.declared.Adsr.{Adsr}
 use Rattle.envelope.specs.declared.AdsrSpec.{AdsrSpec}
 use Rattle.envelope.specs.Adsrs as A
-use Rattle.fixed.specs.declared.Given.{Given}
-use Rattle.fixed.specs.declared.Given.TheVariants as G
+use Rattle.std.specs.Prelude.{Option, Some, None}
 use Rattle.fixed.specs.Fixed.{gained, gained_by, pan_gains}
 use Rattle.fixed.proofs.Laws.{gained-old}
+use lib.IntN.{ℤ}
 use Rattle.laws.proofs.Bools.{never}
 use Rattle.envelope.proofs.Laws as E
-use Rattle.error.specs.Told.{ValidTold}
 use Rattle.polyblep.proofs.Laws as B
-use Rattle.voice.specs.Sources.{active_source, ValidSource, ValidStep, stepped_source, started_entry}
+use Rattle.voice.specs.Sources.{active_source, ValidSource, ValidStep, stepped_source}
 use Rattle.voice.specs.Voices.{Valid, sounding, silent_voice, triggered_voice, released_voice, stopped_voice, audible, ticked_voice, stepped_voice, shaped_by, sample_by, stereo_step, panned_by, pair_by}
-use Rattle.tier.specs.declared.EffectKind.{EffectKind}
-use Rattle.tier.specs.declared.EffectKind.TheVariants as K
 use Rattle.voice.specs.declared.source.VoiceSource.{VoiceSource}
 use Rattle.voice.specs.declared.source.VoiceSource.TheVariants as S
 use Rattle.voice.specs.declared.Voice.{Voice}
-use Rattle.voice.specs.declared.StereoGiven.TheVariants as P
 
 pub valid-source-stepped : (s : VoiceSource) → ValidSource s → ValidStep (stepped_source s)
 unfolding stepped_source
@@ -28,15 +24,6 @@ valid-source-stepped S.Idle h = tt
 valid-source-stepped (S.Tone v) h = tt
 valid-source-stepped (S.PolyBlep v) h = B.valid-stepped v h
 valid-source-stepped (S.Fm v) h = tt
-
-pub valid-entry : (k : EffectKind) (param0 param1 rate : ℕ) → ValidTold ValidSource (started_entry k param0 param1 rate)
-unfolding started_entry
-valid-entry K.Tone a b r = tt
-valid-entry K.Fm a b r = tt
-valid-entry K.Wavetable a b r = tt
-valid-entry K.Pcm8 a b r = tt
-valid-entry K.Adpcm a b r = tt
-valid-entry K.SigmaDeltaBits a b r = tt
 
 valid-click : {rate : ℕ} → rate ≤ 65537 → A.Valid (A.idle_adsr A.click_spec rate)
 valid-click h = E.valid-idle h
@@ -75,6 +62,9 @@ pub valid-stepped : {v : Voice} → Valid v → Valid (stepped_voice v).voice
 unfolding stepped_voice
 valid-stepped {v} h = valid-sounding h (valid-source-stepped v.source h.source) h.adsr
 
+-- the above, for attributes
+pub ruleset keeps_valid = (valid-source-stepped, valid-triggered, valid-released, valid-stopped, valid-ticked, valid-stepped)
+
 -- a voice whose envelope is triggered can be heard
 pub triggered-audible : (v : Voice) (spec : AdsrSpec) → audible (triggered_voice v spec) ≡ true
 unfolding triggered_voice audible
@@ -96,7 +86,7 @@ ticked-silent v e =
     let t : A.ticked v.adsr ≡ v.adsr = E.ticked-inactive h.1 in
     rw (t, e) (h.1, refl)
 
-pub stepped-idle : (v : Voice) → v.source ≡ S.Idle → ((stepped_voice v).given ≡ G.None) × ((stepped_voice v).voice ≡ v)
+pub stepped-idle : (v : Voice) → v.source ≡ S.Idle → ((stepped_voice v).given ≡ None) × ((stepped_voice v).voice ≡ v)
 unfolding stepped_voice stepped_source
 stepped-idle v e = (rw e, rw e)
 
@@ -106,23 +96,23 @@ pub sample-old : (v : Voice) → sample_by false v ≡ (stepped_voice v).given
 unfolding sample_by stepped_voice
 sample-old v = go (stepped_source v.source).given
   where
-    go : (g : Given) → shaped_by (gained_by false) v.adsr.level_q8 v.gain_q8 g ≡ shaped_by gained v.adsr.level_q8 v.gain_q8 g
-    go (G.Sample s) = rw (gained-old s v.adsr.level_q8, gained-old (gained s v.adsr.level_q8) v.gain_q8)
-    go G.None = refl
+    go : (g : Option ℤ) → shaped_by (gained_by false) v.adsr.level_q8 v.gain_q8 g ≡ shaped_by gained v.adsr.level_q8 v.gain_q8 g
+    go (Some s) = rw (gained-old s v.adsr.level_q8, gained-old (gained s v.adsr.level_q8) v.gain_q8)
+    go None = refl
 
 pub pair-old : (v : Voice) → pair_by false v ≡ (stereo_step v).given
 unfolding pair_by stereo_step
 pair-old v = rw (sample-old v) (go (stepped_voice v).given)
   where
-    go : (g : Given) → panned_by (gained_by false) v.pan_q8 g ≡ panned_by gained v.pan_q8 g
-    go (G.Sample s) = rw (gained-old s (pan_gains v.pan_q8).left, gained-old s (pan_gains v.pan_q8).right)
-    go G.None = refl
+    go : (g : Option ℤ) → panned_by (gained_by false) v.pan_q8 g ≡ panned_by gained v.pan_q8 g
+    go (Some s) = rw (gained-old s (pan_gains v.pan_q8).left, gained-old s (pan_gains v.pan_q8).right)
+    go None = refl
 
 -- an idle voice gives none, whatever the rule
-pub sample-idle : (whole : Bool) (v : Voice) → v.source ≡ S.Idle → sample_by whole v ≡ G.None
+pub sample-idle : (whole : Bool) (v : Voice) → v.source ≡ S.Idle → sample_by whole v ≡ None
 unfolding sample_by stepped_source
 sample-idle whole v e = rw e
 
-pub pair-idle : (whole : Bool) (v : Voice) → v.source ≡ S.Idle → pair_by whole v ≡ P.None
+pub pair-idle : (whole : Bool) (v : Voice) → v.source ≡ S.Idle → pair_by whole v ≡ None
 unfolding pair_by
 pair-idle whole v e = rw (sample-idle whole v e)

@@ -10,8 +10,8 @@ use lib.IntN.{ℤ}
 use lib.ListN.{length}
 use Rattle.laws.specs.Runs.{after, given}
 use Rattle.laws.proofs.Stores.{length-cells}
-use Rattle.fixed.specs.declared.Given.{Given}
-use Rattle.fixed.specs.declared.Given.TheVariants as G
+use Rattle.std.specs.Prelude.{Option, Some, None}
+use Rattle.fixed.specs.declared.Step.{Step}
 use Rattle.fixed.specs.Answers.{heard, Stops, Filled}
 use Rattle.fixed.proofs.Answers.{heard-short}
 use Rattle.fm.specs.declared.FmVoice.{FmVoice}
@@ -24,17 +24,15 @@ use Rattle.voice.specs.Sources.{active_source, stepped_source}
 use Rattle.voice.specs.Blocks.{source_step, source_answer, source_run, SourceBlock}
 use Rattle.voice.specs.declared.source.VoiceSource.{VoiceSource}
 use Rattle.voice.specs.declared.source.VoiceSource.TheVariants as S
-use Rattle.voice.specs.declared.source.SourceStep.{SourceStep}
-use Rattle.voice.specs.declared.blocks.SourceFilled.{SourceFilled}
 
 -- ---- one request
 -- whether an answer is a sample
-abbrev answered : Given → Bool
-answered (G.Sample s) = true
-answered G.None = false
+abbrev answered : Option ℤ → Bool
+answered (Some s) = true
+answered None = false
 
 -- an inactive source stays as it is, and gives none
-pub source-quiet : (s : VoiceSource) → active_source s ≡ false → stepped_source s ≡ record { source = s; given = G.None }
+pub source-quiet : (s : VoiceSource) → active_source s ≡ false → stepped_source s ≡ record { voice = s; given = None }
 unfolding stepped_source active_source T.stepped_tone B.stepped_voice B.float_given stepped_fm
 source-quiet S.Idle e = refl
 source-quiet (S.Tone v) e = rw e
@@ -61,7 +59,7 @@ fm-answers v false h = rw h
 fm-answers v true h = rw h
 
 -- a source is active after a request that it answered, and after no other
-pub source-answers : (s : VoiceSource) → active_source (stepped_source s).source ≡ answered (stepped_source s).given
+pub source-answers : (s : VoiceSource) → active_source (stepped_source s).voice ≡ answered (stepped_source s).given
 unfolding stepped_source active_source
 source-answers S.Idle = refl
 source-answers (S.Tone v) = tone-answers v _ _ refl refl
@@ -69,21 +67,21 @@ source-answers (S.PolyBlep v) = blep-answers v _ _ refl refl
 source-answers (S.Fm v) = fm-answers v _ refl
 
 -- a request that gave none leaves the source inactive
-none-inactive : (s : VoiceSource) → (stepped_source s).given ≡ G.None → active_source (source_step s) ≡ false
+none-inactive : (s : VoiceSource) → (stepped_source s).given ≡ None → active_source (source_step s) ≡ false
 unfolding source_step
 none-inactive s e = source-answers s ∙ ap answered e
 
-sample-active : (s : VoiceSource) (x : ℤ) → (stepped_source s).given ≡ G.Sample x → active_source (source_step s) ≡ true
+sample-active : (s : VoiceSource) (x : ℤ) → (stepped_source s).given ≡ Some x → active_source (source_step s) ≡ true
 unfolding source_step
 sample-active s x e = source-answers s ∙ ap answered e
 
 pub step-quiet : (s : VoiceSource) → active_source s ≡ false → source_step s ≡ s
 unfolding source_step
-step-quiet s e = ap (λ (x : SourceStep). x.source) (source-quiet s e)
+step-quiet s e = ap (λ (x : Step VoiceSource (Option ℤ)). x.voice) (source-quiet s e)
 
-answer-quiet : (s : VoiceSource) → active_source s ≡ false → source_answer s ≡ G.None ∷ []
+answer-quiet : (s : VoiceSource) → active_source s ≡ false → source_answer s ≡ None ∷ []
 unfolding source_answer
-answer-quiet s e = ap (λ (x : SourceStep). x.given ∷ []) (source-quiet s e)
+answer-quiet s e = ap (λ (x : Step VoiceSource (Option ℤ)). x.given ∷ []) (source-quiet s e)
 
 -- ---- request by request
 -- an inactive source never changes, and gives none
@@ -101,22 +99,22 @@ pub quiet_same : (n : ℕ) (s t : VoiceSource) → active_source s ≡ false →
 unfolding given
 quiet_same zero s t e f = refl
 quiet_same (suc n) s t e f =
-    rw (step-quiet s e, answer-quiet s e, step-quiet t f, answer-quiet t f) (ap (λ (gs : List Given). G.None ∷ gs) (quiet_same n s t e f))
+    rw (step-quiet s e, answer-quiet s e, step-quiet t f, answer-quiet t f) (ap (λ (gs : List (Option ℤ)). None ∷ gs) (quiet_same n s t e f))
 
-pub run-suc : (n : ℕ) (s : VoiceSource) (g : Given) → (stepped_source s).given ≡ g → source_run (suc n) s ≡ g ∷ source_run n (source_step s)
+pub run-suc : (n : ℕ) (s : VoiceSource) (g : Option ℤ) → (stepped_source s).given ≡ g → source_run (suc n) s ≡ g ∷ source_run n (source_step s)
 unfolding given source_answer
 run-suc n s g e = rw e
 
 -- by its first answer, what holds of a source's run
-by_answer : (P : List Given → Type 0) (n : ℕ) (s : VoiceSource)
-    → ((x : ℤ) → (stepped_source s).given ≡ G.Sample x → P (G.Sample x ∷ source_run n (source_step s)))
-    → (active_source (source_step s) ≡ false → P (G.None ∷ source_run n (source_step s)))
+by_answer : (P : List (Option ℤ) → Type 0) (n : ℕ) (s : VoiceSource)
+    → ((x : ℤ) → (stepped_source s).given ≡ Some x → P (Some x ∷ source_run n (source_step s)))
+    → (active_source (source_step s) ≡ false → P (None ∷ source_run n (source_step s)))
     → P (source_run (suc n) s)
 by_answer P n s f g = go (stepped_source s).given refl
   where
-    go : (a : Given) → (stepped_source s).given ≡ a → P (source_run (suc n) s)
-    go (G.Sample x) e = rw (run-suc n s _ e) (f x e)
-    go G.None e = rw (run-suc n s _ e) (g (none-inactive s e))
+    go : (a : Option ℤ) → (stepped_source s).given ≡ a → P (source_run (suc n) s)
+    go (Some x) e = rw (run-suc n s _ e) (f x e)
+    go None e = rw (run-suc n s _ e) (g (none-inactive s e))
 
 pub length_run : (n : ℕ) (s : VoiceSource) → length (source_run n s) ≡ n
 unfolding source_answer
@@ -165,15 +163,15 @@ lasts n s true q = go (leb (suc n) (length (heard (source_run (suc n) s)) + 1)) 
     go false e = let h = leb-false (suc n) (count + 1) e in sym (source-ended n s (omega arith))
 
 -- ---- a source of each kind runs as its own voice does
-module _ {X : Type 0} (case : X → VoiceSource) (step : X → X) (answer : X → Given)
-    (h : (x : X) → stepped_source (case x) ≡ record { source = case (step x); given = answer x }) where
+module _ {X : Type 0} (case : X → VoiceSource) (step : X → X) (answer : X → Option ℤ)
+    (h : (x : X) → stepped_source (case x) ≡ record { voice = case (step x); given = answer x }) where
   case_step : (x : X) → source_step (case x) ≡ case (step x)
   unfolding source_step
-  case_step x = ap (λ (r : SourceStep). r.source) (h x)
+  case_step x = ap (λ (r : Step VoiceSource (Option ℤ)). r.voice) (h x)
 
   case-answer : (x : X) → source_answer (case x) ≡ answer x ∷ []
   unfolding source_answer
-  case-answer x = ap (λ (r : SourceStep). r.given ∷ []) (h x)
+  case-answer x = ap (λ (r : Step VoiceSource (Option ℤ)). r.given ∷ []) (h x)
 
   pub case-after : (n : ℕ) (x : X) → after source_step n (case x) ≡ case (after step n x)
   unfolding after
@@ -183,49 +181,49 @@ module _ {X : Type 0} (case : X → VoiceSource) (step : X → X) (answer : X �
   pub case-run : (n : ℕ) (x : X) → source_run n (case x) ≡ given step (λ x. answer x ∷ []) n x
   unfolding given
   case-run zero x = refl
-  case-run (suc n) x = rw (case_step x, case-answer x) (ap (λ (gs : List Given). answer x ∷ gs) (case-run n (step x)))
+  case-run (suc n) x = rw (case_step x, case-answer x) (ap (λ (gs : List (Option ℤ)). answer x ∷ gs) (case-run n (step x)))
 
   -- a block of the kind's own requests is the source's
   case-block : {n : ℕ} {x next : X} {cells filled : List ℤ} {k : ℕ} → next ≡ after step n x → Filled (given step (λ x. answer x ∷ []) n x) cells k filled
-      → SourceBlock (case x) n cells (record { source = case next; given = k }) filled
-  case-block {n} {x} e f = record { source = rw (e, case-after n x); given = rw (case-run n x) f }
+      → SourceBlock (case x) n cells (record { voice = case next; given = k }) filled
+  case-block {n} {x} e f = record { voice = rw (e, case-after n x); given = rw (case-run n x) f }
 
 -- and so is that of a source that gives none
-pub quiet-block : (n : ℕ) (s : VoiceSource) (cells : List ℤ) → active_source s ≡ false → SourceBlock s n cells (record { source = s; given = 0 }) cells
+pub quiet-block : (n : ℕ) (s : VoiceSource) (cells : List ℤ) → active_source s ≡ false → SourceBlock s n cells (record { voice = s; given = 0 }) cells
 quiet-block n s cells q =
     record {
-      source = sym (quiet-after n s q);
+      voice = sym (quiet-after n s q);
       given = record { count = rw (quiet-run n s q); taken = rw (quiet-run n s q) };
     }
 
-pub tone-stepped : (v : ToneVoice) → stepped_source (S.Tone v) ≡ record { source = S.Tone (T.stepped_tone v).voice; given = (T.stepped_tone v).given }
+pub tone-stepped : (v : ToneVoice) → stepped_source (S.Tone v) ≡ record { voice = S.Tone (T.stepped_tone v).voice; given = (T.stepped_tone v).given }
 unfolding stepped_source
 tone-stepped v = refl
 
-pub blep-stepped : (v : PolyBlepVoice) → stepped_source (S.PolyBlep v) ≡ record { source = S.PolyBlep (B.stepped_voice v); given = B.cut_given (B.float_given v) }
+pub blep-stepped : (v : PolyBlepVoice) → stepped_source (S.PolyBlep v) ≡ record { voice = S.PolyBlep (B.stepped_voice v); given = B.cut_given (B.float_given v) }
 unfolding stepped_source
 blep-stepped v = refl
 
-pub fm-stepped : (v : FmVoice) → stepped_source (S.Fm v) ≡ record { source = S.Fm (stepped_fm v).voice; given = (stepped_fm v).given }
+pub fm-stepped : (v : FmVoice) → stepped_source (S.Fm v) ≡ record { voice = S.Fm (stepped_fm v).voice; given = (stepped_fm v).given }
 unfolding stepped_source
 fm-stepped v = refl
 
 module _ {n : ℕ} {cells filled : List ℤ} {k : ℕ} where
   pub tone-block : {v next : ToneVoice} → next ≡ after (λ v. (T.stepped_tone v).voice) n v
       → Filled (given (λ v. (T.stepped_tone v).voice) (λ v. (T.stepped_tone v).given ∷ []) n v) cells k filled
-      → SourceBlock (S.Tone v) n cells (record { source = S.Tone next; given = k }) filled
+      → SourceBlock (S.Tone v) n cells (record { voice = S.Tone next; given = k }) filled
   tone-block e f = case-block _ _ _ tone-stepped e f
 
   pub blep-block : {v next : PolyBlepVoice} → next ≡ after B.stepped_voice n v
       → Filled (given B.stepped_voice (λ v. B.cut_given (B.float_given v) ∷ []) n v) cells k filled
-      → SourceBlock (S.PolyBlep v) n cells (record { source = S.PolyBlep next; given = k }) filled
+      → SourceBlock (S.PolyBlep v) n cells (record { voice = S.PolyBlep next; given = k }) filled
   blep-block e f = case-block _ _ _ blep-stepped e f
 
   pub fm-block : {v next : FmVoice} → next ≡ after (λ v. (stepped_fm v).voice) n v
       → Filled (given (λ v. (stepped_fm v).voice) (λ v. (stepped_fm v).given ∷ []) n v) cells k filled
-      → SourceBlock (S.Fm v) n cells (record { source = S.Fm next; given = k }) filled
+      → SourceBlock (S.Fm v) n cells (record { voice = S.Fm next; given = k }) filled
   fm-block e f = case-block _ _ _ fm-stepped e f
 
 -- a block gives at most a sample a request
-pub block-short : {n : ℕ} {s : VoiceSource} {cells filled : List ℤ} {f : SourceFilled} → SourceBlock s n cells f filled → f.given ≤ n
+pub block-short : {n : ℕ} {s : VoiceSource} {cells filled : List ℤ} {f : Step VoiceSource ℕ} → SourceBlock s n cells f filled → f.given ≤ n
 block-short {n} {s} h = omega (arith, h.given.count, heard-short (source_run n s), length_run n s)

@@ -9,8 +9,7 @@ use Rattle.envelope.specs.declared.Adsr.{Adsr}
 use Rattle.envelope.specs.Adsrs as A
 use Rattle.envelope.specs.Blocks.{level_after}
 use Rattle.envelope.proofs.Ticks.{idle-ticks}
-use Rattle.fixed.specs.declared.Given.{Given}
-use Rattle.fixed.specs.declared.Given.TheVariants as G
+use Rattle.std.specs.Prelude.{ℤ, Option, Some, None}
 use Rattle.fixed.specs.Fixed.{gained_by}
 use Rattle.fixed.specs.Answers.{heard, Stops}
 use Rattle.voice.specs.Sources.{active_source, stepped_source}
@@ -25,12 +24,12 @@ use Rattle.voice.proofs.Requests.{source-quiet, step-quiet, quiet-after, quiet_s
 -- ---- one frame
 -- the idle source answers as an inactive one does
 module _ (b : Bool) (s : VoiceSource) (h : b ≡ false → active_source s ≡ false) where
-  kept-stepped : stepped_source (kept b s) ≡ record { source = kept b (source_step s); given = (stepped_source s).given }
+  kept-stepped : stepped_source (kept b s) ≡ record { voice = kept b (source_step s); given = (stepped_source s).given }
   unfolding source_step
   kept-stepped = go b h
     where
       go : (b : Bool) → (b ≡ false → active_source s ≡ false)
-          → stepped_source (kept b s) ≡ record { source = kept b (stepped_source s).source; given = (stepped_source s).given }
+          → stepped_source (kept b s) ≡ record { voice = kept b (stepped_source s).voice; given = (stepped_source s).given }
       go true k = refl
       go false k = rw (source-quiet s (k refl)) (source-quiet S.Idle idle-inactive)
 
@@ -56,6 +55,8 @@ tick-parts v = go (loud v)
         ≡ sounding v (kept b v.source) (A.ticked v.adsr)
     go true = refl
     go false = refl
+
+pub ruleset ticks = (tick-parts)
 
 pub frame-voice : (v : Voice) → voice_step v ≡ sounding v (kept (loud v) (source_step v.source)) (A.ticked v.adsr)
 unfolding voice_step stepped_voice
@@ -138,24 +139,24 @@ unfolding given shaped_answers
 voice-run whole zero v = refl
 voice-run whole (suc n) v =
     let t = A.ticked v.adsr in
-    let e = voice-run whole n (sounding v (kept (loud v) (source_step v.source)) t) ∙ ap (λ (gs : List Given). shaped_answers whole v.gain_q8 gs (given A.ticked level_after n t)) (kept_run (loud v) v.source (loud-source v) n) in
+    let e = voice-run whole n (sounding v (kept (loud v) (source_step v.source)) t) ∙ ap (λ (gs : List (Option ℤ)). shaped_answers whole v.gain_q8 gs (given A.ticked level_after n t)) (kept_run (loud v) v.source (loud-source v) n) in
     rw (frame-answer whole v, frame-voice v, run-suc n v.source _ refl)
-    (ap (λ (gs : List Given). shaped_by (gained_by whole) t.level_q8 v.gain_q8 (stepped_source v.source).given ∷ gs) e)
+    (ap (λ (gs : List (Option ℤ)). shaped_by (gained_by whole) t.level_q8 v.gain_q8 (stepped_source v.source).given ∷ gs) e)
 
 -- ---- shaped answers
-pub none-shaped : (whole : Bool) (gain : ℕ) (gs : List Given) (ls : List ℕ) → heard gs ≡ [] → heard (shaped_answers whole gain gs ls) ≡ []
+pub none-shaped : (whole : Bool) (gain : ℕ) (gs : List (Option ℤ)) (ls : List ℕ) → heard gs ≡ [] → heard (shaped_answers whole gain gs ls) ≡ []
 unfolding heard shaped_answers
 none-shaped whole gain [] ls h = refl
 none-shaped whole gain (g ∷ gs) [] h = refl
-none-shaped whole gain (G.Sample x ∷ gs) (l ∷ ls) h = absurd (let z : ◌≡◌ {A = ℕ} 0 1 = cc in omega arith)
-none-shaped whole gain (G.None ∷ gs) (l ∷ ls) h = none-shaped whole gain gs ls h
+none-shaped whole gain (Some x ∷ gs) (l ∷ ls) h = absurd (let z : ◌≡◌ {A = ℕ} 0 1 = cc in omega arith)
+none-shaped whole gain (None ∷ gs) (l ∷ ls) h = none-shaped whole gain gs ls h
 
-stops-shaped : (whole : Bool) (gain : ℕ) (gs : List Given) (ls : List ℕ) → Stops gs → Stops (shaped_answers whole gain gs ls)
+stops-shaped : (whole : Bool) (gain : ℕ) (gs : List (Option ℤ)) (ls : List ℕ) → Stops gs → Stops (shaped_answers whole gain gs ls)
 unfolding shaped_answers
 stops-shaped whole gain [] ls h = tt
 stops-shaped whole gain (g ∷ gs) [] h = tt
-stops-shaped whole gain (G.Sample x ∷ gs) (l ∷ ls) h = stops-shaped whole gain gs ls h
-stops-shaped whole gain (G.None ∷ gs) (l ∷ ls) h = none-shaped whole gain gs ls h
+stops-shaped whole gain (Some x ∷ gs) (l ∷ ls) h = stops-shaped whole gain gs ls h
+stops-shaped whole gain (None ∷ gs) (l ∷ ls) h = none-shaped whole gain gs ls h
 
 -- a voice that gives none gives none from then on
 pub voice-stops : (whole : Bool) (n : ℕ) (v : Voice) → Stops (voice_run whole n v)

@@ -1,9 +1,8 @@
 -- "a choice of idle, tone, PolyBLEP with its float phase, or FM". Assumes nothing.
-use Rattle.std.specs.Prelude.{ℕ, Bool, false, cond, eqb}
+use Rattle.std.specs.Prelude.{ℕ, Bool, false, cond, eqb, ℤ, Option, Some, None}
 use Rattle.envelope.specs.Adsrs.{click_spec}
-use Rattle.error.specs.Numbers.{number_of}
 use Rattle.error.specs.Told.{Told, value, refused}
-use Rattle.fixed.specs.declared.Given.TheVariants as G
+use Rattle.fixed.specs.declared.Step.{Step}
 use Rattle.fm.specs.Fm.{started_fm, stepped_fm}
 use Rattle.polyblep.specs.declared.PolyBlepWaveform.{PolyBlepWaveform}
 use Rattle.polyblep.specs.Oscillators as B
@@ -14,21 +13,17 @@ use Rattle.tone.specs.declared.Waveform.TheVariants as W
 use Rattle.tone.specs.Tones as T
 use Rattle.voice.specs.declared.source.VoiceSource.{VoiceSource}
 use Rattle.voice.specs.declared.source.VoiceSource.TheVariants as S
-use Rattle.voice.specs.declared.source.Carrier.{Carrier}
-use Rattle.voice.specs.declared.source.Carrier.TheVariants as C
-use Rattle.voice.specs.declared.source.SourceStep.{SourceStep}
-use Rattle.voice.specs.declared.source.Started.{Started}
-use Rattle.voice.specs.declared.source.Started.TheVariants as R
 
--- PolyBLEP's phase and step lie in their ranges
+-- PolyBLEP's phase and step lie in their ranges.
+-- Tried by an `impl Model`: a Copy struct that holds one is not copied in a proof when used again, so the callers' proofs do not close.
 abbrev pub ValidSource : VoiceSource → Type 0
 ValidSource S.Idle = Unit {0}
 ValidSource (S.Tone v) = Unit {0}
 ValidSource (S.PolyBlep v) = B.ValidVoice v
 ValidSource (S.Fm v) = Unit {0}
 
-abbrev pub ValidStep : SourceStep → Type 0
-ValidStep s = ValidSource s.source
+abbrev pub ValidStep : {T : Type 0} → Step VoiceSource T → Type 0
+ValidStep s = ValidSource s.voice
 
 unfoldable pub active_source : VoiceSource → Bool
 active_source S.Idle = false
@@ -37,21 +32,21 @@ active_source (S.PolyBlep v) = v.active
 active_source (S.Fm v) = v.active
 
 -- 0 Hz is no carrier
-unfoldable pub carrier_of : ℕ → Carrier
-carrier_of hz = cond (eqb hz 0) C.None (C.Hz hz)
+unfoldable pub carrier_of : ℕ → Option ℕ
+carrier_of hz = cond (eqb hz 0) None (Some hz)
 
-unfoldable pub carrier_given : VoiceSource → ℕ → Carrier
-carrier_given S.Idle rate = C.None
+unfoldable pub carrier_given : VoiceSource → ℕ → Option ℕ
+carrier_given S.Idle rate = None
 carrier_given (S.Tone v) rate = carrier_of (T.carrier_of v rate)
 carrier_given (S.PolyBlep v) rate = carrier_of (B.carrier_of v)
-carrier_given (S.Fm v) rate = C.None
+carrier_given (S.Fm v) rate = None
 
 -- a request for a sample
-unfoldable pub stepped_source : VoiceSource → SourceStep
-stepped_source S.Idle = record { source = S.Idle; given = G.None }
-stepped_source (S.Tone v) = let s = T.stepped_tone v in record { source = S.Tone s.voice; given = s.given }
-stepped_source (S.PolyBlep v) = record { source = S.PolyBlep (B.stepped_voice v); given = B.cut_given (B.float_given v) }
-stepped_source (S.Fm v) = let s = stepped_fm v in record { source = S.Fm s.voice; given = s.given }
+unfoldable pub stepped_source : VoiceSource → Step VoiceSource (Option ℤ)
+stepped_source S.Idle = record { voice = S.Idle; given = None }
+stepped_source (S.Tone v) = let s = T.stepped_tone v in record { voice = S.Tone s.voice; given = s.given }
+stepped_source (S.PolyBlep v) = record { voice = S.PolyBlep (B.stepped_voice v); given = B.cut_given (B.float_given v) }
+stepped_source (S.Fm v) = let s = stepped_fm v in record { voice = S.Fm s.voice; given = s.given }
 
 abbrev pub tone_source : ℕ → ℕ → Waveform → ℕ → VoiceSource
 tone_source hz ms waveform rate =
@@ -73,7 +68,3 @@ started_entry K.Wavetable param0 param1 rate = refused 10
 started_entry K.Pcm8 param0 param1 rate = refused 10
 started_entry K.Adpcm param0 param1 rate = refused 10
 started_entry K.SigmaDeltaBits param0 param1 rate = refused 10
-
-abbrev pub told_source : Started → Told VoiceSource
-told_source (R.Source s) = value s
-told_source (R.Refused e) = refused (number_of e)

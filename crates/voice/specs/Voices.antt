@@ -1,31 +1,24 @@
 -- The voice around a source, call by call. Assumes nothing.
-use Rattle.std.specs.Prelude.{ℕ, ◌≤◌, Bool, cond, ◌||◌, ℤ}
+use Rattle.std.specs.Prelude.{ℕ, ◌≤◌, Bool, cond, ◌||◌, ℤ, Option, Some, None}
 use Rattle.envelope.specs.declared.Adsr.{Adsr}
 use Rattle.envelope.specs.declared.AdsrSpec.{AdsrSpec}
 use Rattle.envelope.specs.Adsrs as A
-use Rattle.fixed.specs.declared.Given.{Given}
-use Rattle.fixed.specs.declared.Given.TheVariants as G
+use Rattle.fixed.specs.declared.Step.{Step}
 use Rattle.fixed.specs.Fixed.{gained, gained_by, pan_gains}
 use Rattle.voice.specs.Sources.{ValidSource, active_source, stepped_source}
 use Rattle.voice.specs.declared.source.VoiceSource.{VoiceSource}
 use Rattle.voice.specs.declared.source.VoiceSource.TheVariants as S
 use Rattle.voice.specs.declared.Voice.{Voice}
-use Rattle.voice.specs.declared.VoiceStep.{VoiceStep}
-use Rattle.voice.specs.declared.StereoGiven.{StereoGiven}
-use Rattle.voice.specs.declared.StereoGiven.TheVariants as P
-use Rattle.voice.specs.declared.StereoStep.{StereoStep}
 
--- what every voice that a call takes or gives has
+-- What every voice that a call takes or gives has. No ghost field: its fields are public, and each definition that builds a voice would
+-- need a proof.
 pub record Valid (v : Voice) : Type 0 where
   pub rate : v.sample_rate_hz ≤ 65537
   pub source : ValidSource v.source
   pub adsr : A.Valid v.adsr
 
-abbrev pub ValidVoiceStep : VoiceStep → Type 0
-ValidVoiceStep s = Valid s.voice
-
-abbrev pub ValidStereoStep : StereoStep → Type 0
-ValidStereoStep s = Valid s.voice
+abbrev pub ValidStep : {T : Type 0} → Step Voice T → Type 0
+ValidStep s = Valid s.voice
 
 -- "A silent voice: idle source, idle envelope, gain 255, priority 0, pan 128."
 unfoldable pub silent_voice : ℕ → Voice
@@ -95,33 +88,33 @@ ticked_voice v =
     cond (audible t) t (sounding t S.Idle t.adsr)
 
 -- "Gain: floor(sample × gain ÷ 256), by envelope first, then voice", by a rule for one gain
-abbrev pub shaped_by : (ℤ → ℕ → ℤ) → ℕ → ℕ → Given → Given
-shaped_by rule level gain (G.Sample raw) = G.Sample (rule (rule raw level) gain)
-shaped_by rule level gain G.None = G.None
+abbrev pub shaped_by : (ℤ → ℕ → ℤ) → ℕ → ℕ → Option ℤ → Option ℤ
+shaped_by rule level gain (Some raw) = Some (rule (rule raw level) gain)
+shaped_by rule level gain None = None
 
 -- a request for a sample
-unfoldable pub stepped_voice : Voice → VoiceStep
+unfoldable pub stepped_voice : Voice → Step Voice (Option ℤ)
 stepped_voice v =
     let s = stepped_source v.source in
     record {
-      voice = sounding v s.source v.adsr;
+      voice = sounding v s.voice v.adsr;
       given = shaped_by gained v.adsr.level_q8 v.gain_q8 s.given;
     }
 
 -- the sample of a request, by a rule of gain 255; document 01's is steppedVoice's
-unfoldable pub sample_by : Bool → Voice → Given
+unfoldable pub sample_by : Bool → Voice → Option ℤ
 sample_by whole v = shaped_by (gained_by whole) v.adsr.level_q8 v.gain_q8 (stepped_source v.source).given
 
 -- the mono sample on both sides, "after pan"
-abbrev pub panned_by : (ℤ → ℕ → ℤ) → ℕ → Given → StereoGiven
-panned_by rule pan (G.Sample s) = P.Pair (rule s (pan_gains pan).left) (rule s (pan_gains pan).right)
-panned_by rule pan G.None = P.None
+abbrev pub panned_by : (ℤ → ℕ → ℤ) → ℕ → Option ℤ → Option (ℤ × ℤ)
+panned_by rule pan (Some s) = Some (rule s (pan_gains pan).left, rule s (pan_gains pan).right)
+panned_by rule pan None = None
 
-unfoldable pub stereo_step : Voice → StereoStep
+unfoldable pub stereo_step : Voice → Step Voice (Option (ℤ × ℤ))
 stereo_step v =
     let s = stepped_voice v in
     record { voice = s.voice; given = panned_by gained v.pan_q8 s.given }
 
 -- the same by a rule of gain 255; document 01's is stereoStep's
-unfoldable pub pair_by : Bool → Voice → StereoGiven
+unfoldable pub pair_by : Bool → Voice → Option (ℤ × ℤ)
 pair_by whole v = panned_by (gained_by whole) v.pan_q8 (sample_by whole v)

@@ -9,57 +9,38 @@ ghost use Rattle.voice.specs.Blocks.{SourceBlock, VoiceBlock, kept, shaped_first
 
 use super::{Voice, VoiceSource};
 use envelope::Adsr;
-
-// A source after a block's requests, and how many of them, the first ones, gave a sample.
-#[derive(Clone, Copy)]
-pub struct SourceFilled {
-    pub source: VoiceSource,
-    pub given: usize,
-}
-
-// A voice after a block's frames, and in how many of them, the first ones, it gave a sample.
-#[derive(Clone, Copy)]
-pub struct VoiceRun {
-    pub voice: Voice,
-    pub given: usize,
-}
+use fixed::Step;
 
 impl VoiceSource {
-    // len requests, 256 at most: the first `given` cells take what was given.
-    fn fill(self, len: usize, out: &mut [i8; 256]) -> SourceFilled
+    // len requests, 256 at most: what is given is how many of them, the first ones, gave a sample, written from the front on.
+    fn fill(self, len: usize, out: &mut [i8; 256]) -> Step<VoiceSource, usize>
         requires { ValidSource self }
         ensures { SourceBlock self (min len 256) out.old result out.new }
     {
         match self {
-            VoiceSource::Idle => SourceFilled {
-                source: self,
+            VoiceSource::Idle => Step {
+                voice: self,
                 given: 0,
             },
             VoiceSource::Tone(v) => {
                 let f = v.fill(len, out);
-                let next = f.voice;
-                let given = f.given;
-                SourceFilled {
-                    source: VoiceSource::Tone(next),
-                    given,
+                Step {
+                    voice: VoiceSource::Tone(f.voice),
+                    given: f.given,
                 }
             }
             VoiceSource::PolyBlep(v) => {
                 let f = v.fill(len, out);
-                let next = f.voice;
-                let given = f.given;
-                SourceFilled {
-                    source: VoiceSource::PolyBlep(next),
-                    given,
+                Step {
+                    voice: VoiceSource::PolyBlep(f.voice),
+                    given: f.given,
                 }
             }
             VoiceSource::Fm(v) => {
                 let f = v.fill(len, out);
-                let next = f.voice;
-                let given = f.given;
-                SourceFilled {
-                    source: VoiceSource::Fm(next),
-                    given,
+                Step {
+                    voice: VoiceSource::Fm(f.voice),
+                    given: f.given,
                 }
             }
         }
@@ -82,16 +63,14 @@ fn lasting(is_active: bool, given: usize, n: usize) -> bool
     requires { given ≤ 256 }
     ensures { result ≡ cond is_active (leb n (given + 1)) false }
 {
-    if is_active { n <= given + 1 } else { false }
+    is_active && n <= given + 1
 }
 
 // The source that a voice keeps: the idle one where nothing can be heard.
-fn keep(source: VoiceSource, is_active: bool, adsr: Adsr) -> VoiceSource
+pub(crate) fn keep(source: VoiceSource, is_active: bool, adsr: Adsr) -> VoiceSource
     ensures { result ≡ kept (is_active || active adsr) source }
 {
-    if is_active {
-        source
-    } else if adsr.is_active() {
+    if is_active || adsr.is_active() {
         source
     } else {
         VoiceSource::Idle
@@ -99,33 +78,35 @@ fn keep(source: VoiceSource, is_active: bool, adsr: Adsr) -> VoiceSource
 }
 
 impl Voice {
-    // len ticks, 256 at most, a sample asked for after each: the first `given` cells take what was given, by the rule `whole` of gain 255.
-    pub fn run(self, len: usize, whole: bool, samples: &mut [i8; 256]) -> VoiceRun
+    // len ticks, 256 at most, a sample asked for after each: what is given is in how many of them, the first ones, it gave a sample, which
+    // the cells take from the front on, by the rule `whole` of gain 255.
+    pub fn run(self, len: usize, whole: bool, samples: &mut [i8; 256]) -> Step<Voice, usize>
         requires { Valid self }
         ensures { VoiceBlock whole self (min len 256) samples.old result samples.new }
     {
         if len == 0 {
-            return VoiceRun {
+            return Step {
                 voice: self,
                 given: 0,
             };
         }
-        let old = self.adsr;
-        let source = self.source;
-        let mut levels = [0u8; 256];
-        let adsr = old.levels(len, &mut levels);
-        let f = source.fill(len, samples);
-        let given = f.given;
-        let filled = f.source;
+        let mut levels = [0; 256];
+        let adsr = self.adsr.levels(len, &mut levels);
+        let filled = self.source.fill(len, samples);
+        let given = filled.given;
         shape(samples, &levels, self.gain_q8, whole, given);
         let n = tone::block_len(len);
-        let next = keep(filled, lasting(source.is_active(), given, n), adsr);
+        let source = keep(
+            filled.voice,
+            lasting(self.source.is_active(), given, n),
+            adsr,
+        );
         let voice = Voice {
-            source: next,
+            source,
             adsr,
             ..self
         };
-        VoiceRun { voice, given }
+        Step { voice, given }
     }
 
     // len ticks, 256 at most, with no sample asked for.
@@ -136,13 +117,11 @@ impl Voice {
         if len == 0 {
             return self;
         }
-        let old = self.adsr;
-        let source = self.source;
-        let mut levels = [0u8; 256];
-        let adsr = old.levels(len, &mut levels);
-        let next = keep(source, source.is_active(), adsr);
+        let mut levels = [0; 256];
+        let adsr = self.adsr.levels(len, &mut levels);
+        let source = keep(self.source, self.source.is_active(), adsr);
         Voice {
-            source: next,
+            source,
             adsr,
             ..self
         }

@@ -3,18 +3,17 @@
 
 ghost use Rattle.std.specs.Prelude.{◌≡◌};
 ghost use Rattle.laws.specs.Made.{Made};
-ghost use Rattle.voice.specs.Voices.{Valid, ValidVoiceStep, ValidStereoStep, silent_voice, with_gain, with_pan, triggered_voice, released_voice, stopped_voice, audible, ticked_voice, stepped_voice, stereo_step};
+ghost use Rattle.voice.specs.Voices.{Valid, ValidStep, silent_voice, with_gain, with_pan, triggered_voice, released_voice, stopped_voice, audible, ticked_voice, stepped_voice, stereo_step};
 
 use envelope::{Adsr, AdsrSpec};
-use fixed::Given;
+use fixed::Step;
 
 mod blocks;
 mod source;
 
-pub use blocks::VoiceRun;
-pub use source::{Carrier, SourceStep, Started, VoiceSource};
+pub use source::VoiceSource;
 
-#[derive(Clone, Copy)]
+#[derive(Clone, Copy, Debug, PartialEq)]
 pub struct Voice {
     pub source: VoiceSource,
     pub adsr: Adsr,
@@ -24,33 +23,14 @@ pub struct Voice {
     pub sample_rate_hz: u32,
 }
 
-#[derive(Clone, Copy)]
-pub struct VoiceStep {
-    pub voice: Voice,
-    pub given: Given,
-}
-
-// The source's `Option<(i8, i8)>`.
-#[derive(Clone, Copy)]
-pub enum StereoGiven {
-    Pair(i8, i8),
-    None,
-}
-
-#[derive(Clone, Copy)]
-pub struct StereoStep {
-    pub voice: Voice,
-    pub given: StereoGiven,
-}
-
 impl Voice {
+    #[tactic(auto, unfolding(crate::specs::Voices::silent_voice))]
     pub fn silent(sample_rate_hz: u32) -> Voice
         ensures { result ≡ silent_voice sample_rate_hz }
     {
-        let adsr = Adsr::new(AdsrSpec::click(), sample_rate_hz);
         Voice {
             source: VoiceSource::Idle,
-            adsr,
+            adsr: Adsr::new(AdsrSpec::click(), sample_rate_hz),
             gain_q8: 255,
             priority: 0,
             pan_q8: 128,
@@ -58,36 +38,39 @@ impl Voice {
         }
     }
 
+    #[tactic(auto, unfolding(crate::specs::Voices::with_gain))]
     pub fn set_gain_q8(self, gain_q8: u8) -> Voice
         ensures { result ≡ with_gain self gain_q8 }
     {
         Voice { gain_q8, ..self }
     }
 
+    #[tactic(auto, unfolding(crate::specs::Voices::with_pan))]
     pub fn set_pan_q8(self, pan_q8: u8) -> Voice
         ensures { result ≡ with_pan self pan_q8 }
     {
         Voice { pan_q8, ..self }
     }
 
+    #[tactic(auto, using(crate::proofs::Laws::keeps_valid), unfolding(crate::specs::Voices::triggered_voice))]
     pub fn trigger_adsr(self, spec: AdsrSpec) -> Voice
         requires { Valid self }
         ensures { Made Valid (triggered_voice self spec) result }
     {
-        let new = Adsr::new(spec, self.sample_rate_hz);
-        let adsr = new.trigger();
+        let adsr = Adsr::new(spec, self.sample_rate_hz).trigger();
         Voice { adsr, ..self }
     }
 
+    #[tactic(auto, using(crate::proofs::Laws::keeps_valid), unfolding(crate::specs::Voices::released_voice))]
     pub fn release(self) -> Voice
         requires { Valid self }
         ensures { Made Valid (released_voice self) result }
     {
-        let old = self.adsr;
-        let adsr = old.release();
+        let adsr = self.adsr.release();
         Voice { adsr, ..self }
     }
 
+    #[tactic(auto, using(crate::proofs::Laws::keeps_valid), unfolding(crate::specs::Voices::stopped_voice))]
     pub fn stop_immediate(self) -> Voice
         requires { Valid self }
         ensures { Made Valid (stopped_voice self) result }
@@ -100,82 +83,60 @@ impl Voice {
         }
     }
 
+    #[tactic(auto, unfolding(crate::specs::Voices::audible))]
     pub fn is_audible(self) -> bool
         ensures { result ≡ audible self }
     {
-        let source = self.source;
-        let adsr = self.adsr;
-        if source.is_active() {
-            true
-        } else {
-            adsr.is_active()
-        }
+        self.source.is_active() || self.adsr.is_active()
     }
 
     // The envelope's tick; a voice that is then inaudible gets the idle source.
+    #[tactic(auto, using(crate::proofs::Laws::keeps_valid, crate::proofs::Runs::ticks))]
     pub fn tick_envelope(self) -> Voice
         requires { Valid self }
         ensures { Made Valid (ticked_voice self) result }
     {
-        let old = self.adsr;
-        let adsr = old.tick();
-        let v = Voice { adsr, ..self };
-        if v.is_audible() {
-            v
-        } else {
-            Voice {
-                source: VoiceSource::Idle,
-                ..v
-            }
+        let adsr = self.adsr.tick();
+        let source = blocks::keep(self.source, self.source.is_active(), adsr);
+        Voice {
+            source,
+            adsr,
+            ..self
         }
     }
 
-    pub fn next_sample(self) -> VoiceStep
+    #[tactic(auto, using(crate::proofs::Laws::keeps_valid), unfolding(crate::specs::Voices::stepped_voice))]
+    pub fn next_sample(self) -> Step<Voice, Option<i8>>
         requires { Valid self }
-        ensures { Made ValidVoiceStep (stepped_voice self) result }
+        ensures { Made ValidStep (stepped_voice self) result }
     {
-        let old = self.source;
-        let adsr = self.adsr;
-        let step = old.next_raw_sample();
-        let source = step.source;
-        let given = step.given;
-        let voice = Voice { source, ..self };
-        match given {
-            Given::Sample(raw) => {
-                let s = fixed::apply_document_01_gain(raw, adsr.level_q8);
-                VoiceStep {
-                    voice,
-                    given: Given::Sample(fixed::apply_document_01_gain(s, self.gain_q8)),
-                }
-            }
-            Given::None => VoiceStep {
-                voice,
-                given: Given::None,
-            },
-        }
+        let step = self.source.next_raw_sample();
+        let voice = Voice {
+            source: step.voice,
+            ..self
+        };
+        let given = step.given.map(|raw| {
+            let s = fixed::apply_document_01_gain(raw, self.adsr.level_q8);
+            fixed::apply_document_01_gain(s, self.gain_q8)
+        });
+        Step { voice, given }
     }
 
-    pub fn next_stereo_sample(self) -> StereoStep
+    #[tactic(auto, using(crate::proofs::Laws::keeps_valid), unfolding(crate::specs::Voices::stereo_step))]
+    pub fn next_stereo_sample(self) -> Step<Voice, Option<(i8, i8)>>
         requires { Valid self }
-        ensures { Made ValidStereoStep (stereo_step self) result }
+        ensures { Made ValidStep (stereo_step self) result }
     {
         let step = self.next_sample();
-        let voice = step.voice;
-        let given = step.given;
-        match given {
-            Given::Sample(s) => {
-                let gains = fixed::pan_to_gains_q8(self.pan_q8);
-                let left = fixed::apply_document_01_gain(s, gains.left);
-                let right = fixed::apply_document_01_gain(s, gains.right);
-                StereoStep {
-                    voice,
-                    given: StereoGiven::Pair(left, right),
-                }
-            }
-            Given::None => StereoStep {
-                voice,
-                given: StereoGiven::None,
-            },
+        let given = step.given.map(|s| {
+            let gains = fixed::pan_to_gains_q8(self.pan_q8);
+            let left = fixed::apply_document_01_gain(s, gains.left);
+            let right = fixed::apply_document_01_gain(s, gains.right);
+            (left, right)
+        });
+        Step {
+            voice: step.voice,
+            given,
         }
     }
 }

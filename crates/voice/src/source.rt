@@ -2,17 +2,17 @@
 ghost use Rattle.std.specs.Prelude.{◌≡◌};
 ghost use Rattle.laws.specs.Made.{Made};
 ghost use Rattle.error.specs.Told.{Answered};
-ghost use Rattle.voice.specs.Sources.{ValidSource, ValidStep, active_source, carrier_of, carrier_given, stepped_source, tone_source, poly_blep_source, fm_source, started_entry, told_source};
+ghost use Rattle.voice.specs.Sources.{ValidSource, ValidStep, active_source, carrier_of, carrier_given, stepped_source, tone_source, poly_blep_source, fm_source, started_entry};
 
 use envelope::AdsrSpec;
 use error::AudioError;
-use fixed::Given;
+use fixed::Step;
 use fm::FmVoice;
 use polyblep::{PolyBlepVoice, PolyBlepWaveform};
 use tier::EffectKind;
 use tone::{ToneParams, ToneVoice, Waveform};
 
-#[derive(Clone, Copy)]
+#[derive(Clone, Copy, Debug, PartialEq)]
 pub enum VoiceSource {
     Idle,
     Tone(ToneVoice),
@@ -20,38 +20,15 @@ pub enum VoiceSource {
     Fm(FmVoice),
 }
 
-// The source's `Option<u32>`: the Hz of a source that has a carrier.
-#[derive(Clone, Copy)]
-pub enum Carrier {
-    Hz(u32),
-    None,
-}
-
-// What a request for a sample gives, and the source after it.
-#[derive(Clone, Copy)]
-pub struct SourceStep {
-    pub source: VoiceSource,
-    pub given: Given,
-}
-
-// What an entry starts, or why it does not.
-#[derive(Clone, Copy)]
-pub enum Started {
-    Source(VoiceSource),
-    Refused(AudioError),
-}
-
-fn carrier_of(hz: u32) -> Carrier
+#[tactic(auto, unfolding(crate::specs::Sources::carrier_of))]
+fn carrier_of(hz: u32) -> Option<u32>
     ensures { result ≡ carrier_of hz }
 {
-    if hz == 0 {
-        Carrier::None
-    } else {
-        Carrier::Hz(hz)
-    }
+    if hz == 0 { None } else { Some(hz) }
 }
 
 impl VoiceSource {
+    #[tactic(auto, unfolding(crate::specs::Sources::active_source))]
     pub fn is_active(self) -> bool
         ensures { result ≡ active_source self }
     {
@@ -63,51 +40,47 @@ impl VoiceSource {
         }
     }
 
-    pub fn carrier_hz(self, sample_rate_hz: u32) -> Carrier
+    // The Hz of a source that has a carrier.
+    #[tactic(auto, unfolding(crate::specs::Sources::carrier_given))]
+    pub fn carrier_hz(self, sample_rate_hz: u32) -> Option<u32>
         ensures { result ≡ carrier_given self sample_rate_hz }
     {
         match self {
-            VoiceSource::Idle => Carrier::None,
             VoiceSource::Tone(v) => carrier_of(v.carrier_hz(sample_rate_hz)),
             VoiceSource::PolyBlep(v) => carrier_of(v.carrier_hz()),
-            VoiceSource::Fm(_) => Carrier::None,
+            VoiceSource::Idle | VoiceSource::Fm(_) => None,
         }
     }
 
-    pub fn next_raw_sample(self) -> SourceStep
+    #[tactic(auto, using(crate::proofs::Laws::keeps_valid), unfolding(crate::specs::Sources::stepped_source))]
+    pub fn next_raw_sample(self) -> Step<VoiceSource, Option<i8>>
         requires { ValidSource self }
         ensures { Made ValidStep (stepped_source self) result }
     {
         match self {
-            VoiceSource::Idle => SourceStep {
-                source: self,
-                given: Given::None,
+            VoiceSource::Idle => Step {
+                voice: self,
+                given: None,
             },
             VoiceSource::Tone(v) => {
                 let s = v.next_sample();
-                let next = s.voice;
-                let given = s.given;
-                SourceStep {
-                    source: VoiceSource::Tone(next),
-                    given,
+                Step {
+                    voice: VoiceSource::Tone(s.voice),
+                    given: s.given,
                 }
             }
             VoiceSource::PolyBlep(v) => {
                 let s = v.next_sample();
-                let next = s.voice;
-                let given = s.given;
-                SourceStep {
-                    source: VoiceSource::PolyBlep(next),
-                    given,
+                Step {
+                    voice: VoiceSource::PolyBlep(s.voice),
+                    given: s.given,
                 }
             }
             VoiceSource::Fm(v) => {
                 let s = v.next_sample();
-                let next = s.voice;
-                let given = s.given;
-                SourceStep {
-                    source: VoiceSource::Fm(next),
-                    given,
+                Step {
+                    voice: VoiceSource::Fm(s.voice),
+                    given: s.given,
                 }
             }
         }
@@ -132,12 +105,11 @@ impl VoiceSource {
     ) -> VoiceSource
         ensures { Made ValidSource (tone_source freq_hz duration_ms waveform sample_rate_hz) result }
     {
-        let adsr = AdsrSpec::click();
         let params = ToneParams {
             freq_hz,
             duration_ms,
             waveform,
-            adsr,
+            adsr: AdsrSpec::click(),
         };
         VoiceSource::Tone(ToneVoice::start(params, sample_rate_hz))
     }
@@ -149,28 +121,28 @@ impl VoiceSource {
     }
 
     // A stored-sample kind is not carried over. The entry's flags and payload serve those kinds alone.
+    #[tactic(auto, unfolding(crate::specs::Sources::started_entry))]
     pub fn start_from_entry(
         kind: EffectKind,
         param0: u16,
         param1: u16,
         sample_rate_hz: u32,
-    ) -> Started
-        ensures { Answered told_source ValidSource (started_entry kind param0 param1 sample_rate_hz) result }
+    ) -> Result<VoiceSource, AudioError>
+        ensures { Answered ValidSource (started_entry kind param0 param1 sample_rate_hz) result }
     {
+        let param0 = u32::from(param0);
         match kind {
-            EffectKind::Tone => Started::Source(VoiceSource::start_tone(
-                param0 as u32,
+            EffectKind::Tone => Ok(VoiceSource::start_tone(
+                param0,
                 param1,
                 Waveform::Sine,
                 sample_rate_hz,
             )),
-            EffectKind::Fm => {
-                Started::Source(VoiceSource::start_fm(param0 as u32, param1, sample_rate_hz))
-            }
-            EffectKind::Wavetable => Started::Refused(AudioError::NotCarried),
-            EffectKind::Pcm8 => Started::Refused(AudioError::NotCarried),
-            EffectKind::Adpcm => Started::Refused(AudioError::NotCarried),
-            EffectKind::SigmaDeltaBits => Started::Refused(AudioError::NotCarried),
+            EffectKind::Fm => Ok(VoiceSource::start_fm(param0, param1, sample_rate_hz)),
+            EffectKind::Wavetable
+            | EffectKind::Pcm8
+            | EffectKind::Adpcm
+            | EffectKind::SigmaDeltaBits => Err(AudioError::NotCarried),
         }
     }
 }

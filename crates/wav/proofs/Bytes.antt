@@ -1,15 +1,15 @@
 -- Numbers and cells as bytes, as loops write them. Assumes nothing.
 use mathlib.Core.Path.{◌≡◌, refl, sym, ap, ◌∙◌}
 use mathlib.Core.List.{List, [], ◌∷◌}
-use Prim.Native.Nat.{ℕ, zero, suc, ◌+◌, ◌-◌, ◌*◌, ◌/◌, ◌%◌, ◌≤◌, ◌<◌}
+use Prim.Native.Nat.{ℕ, zero, suc, ◌+◌, ◌*◌, ◌/◌, ◌≤◌, ◌<◌}
 use native.Mathlib.Numerals.{add-one}
-use native.Mathlib.Nat.{add-suc, add-zero}
 use native.Mathlib.Omega.{arith}
 use lib.IntN.{ℤ}
-use lib.ListN.{length, set, get_or, drop, length-append, drop_of_length-le}
+use lib.ListN.{length, get_or, drop, length-append, drop_of_length-le}
 use lib.Seq.{sets, sets-eq, drop-cons}
-use mir.Syntax.{w16}
+use mir.Syntax.{w16, w32}
 use mir.Val.{of_z}
+use Rattle.std.specs.Int.{to_le_bytes}
 use Rattle.laws.proofs.Lists.{sets-append}
 use Rattle.wav.specs.Wav.{little, cell_bytes, Laid}
 
@@ -23,22 +23,17 @@ unfolding cell_bytes
 length-cells [] = refl
 length-cells (z ∷ zs) = omega (arith, length-append (little 2 (of_z w16 z)) (cell_bytes zs), length-little 2 (of_z w16 z), length-cells zs)
 
--- ---- a number, byte by byte: what is left to write is what there was
-
-pub put-start : (out : List ℕ) (at k n : ℕ) → sets out (at + 0) (little (k - 0) n) ≡ sets out at (little k n)
-put-start out at k n = let e : k - 0 ≡ k = omega arith in rw (e, add-zero at)
-
-one_byte : (out : List ℕ) (at i j n : ℕ) → sets (set out (at + i) (n % 256)) (at + (i + 1)) (little j (n / 256)) ≡ sets out (at + i) (little (suc j) n)
+-- a number's bytes as the library gives them
+pub low-two : (n : ℕ) → to_le_bytes w16 n ≡ little 2 n
 unfolding little
-one_byte out at i j n = rw (add-one i, add-suc at i)
+low-two n = refl
 
-pub put-turn : (out : List ℕ) (at k n i : ℕ) → i < k
-    → sets (set out (at + i) (n % 256)) (at + (i + 1)) (little (k - (i + 1)) (n / 256)) ≡ sets out (at + i) (little (k - i) n)
-put-turn out at k n i h = let e : k - i ≡ suc (k - (i + 1)) = omega arith in rw e (one_byte out at i (k - (i + 1)) n)
-
-pub put-end : (out : List ℕ) (at k n i : ℕ) → k ≤ i → sets out at (little (k - i) n) ≡ out
+pub low-four : (n : ℕ) → to_le_bytes w32 n ≡ little 4 n
 unfolding little
-put-end out at k n i h = let e : k - i ≡ 0 = omega arith in rw e
+low-four n =
+    let b : n / 65536 ≡ n / 256 / 256 = omega arith in
+    let c : n / 16777216 ≡ n / 256 / 256 / 256 = omega arith in
+    rw (b, c)
 
 -- ---- cells, one after another
 

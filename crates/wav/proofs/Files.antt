@@ -1,6 +1,6 @@
 -- What a reader finds in a file. Assumes nothing.
 use mathlib.Core.Path.{◌≡◌, refl, ◌∙◌}
-use mathlib.Core.Bool.{Bool, true, false, ◌&&◌}
+use mathlib.Core.Bool.{Bool, true, false, ◌&&◌, cond}
 use mathlib.Core.List.{List, [], ◌∷◌}
 use Prim.Native.Nat.{ℕ, zero, suc, ◌+◌, ◌*◌, ◌/◌, ◌^◌, ◌<◌}
 use native.Mathlib.Omega.{arith}
@@ -13,7 +13,8 @@ use lib.Dec.{leb}
 use borrow.Author.Tests.{leb-true}
 use Rattle.laws.proofs.Bools.{never}
 use Rattle.laws.specs.Lists.{All}
-use Rattle.wav.specs.Wav.{little, wav_header, wav_fits, cell_bytes}
+use Rattle.std.proofs.Common.{Some, None}
+use Rattle.wav.specs.Wav.{little, wav_header, wav_fits, header_of, cell_bytes}
 use Rattle.wav.specs.File.{number_in, cells_in, wav_file, Reads}
 use Rattle.wav.proofs.Bytes.{length-cells}
 
@@ -50,3 +51,21 @@ reads rate frames cells n f h =
       rate_field = number-back 4 rate (omega arith);
       cells_field = cells-back cells h;
     })
+
+-- a header is given where its numbers fit, and else none is
+module _ (rate frames : ℕ) where
+  pub fits-some : (b : List ℕ) → header_of rate frames ≡ Some b → wav_fits rate frames ≡ true
+  unfolding header_of
+  fits-some b e = by (wav_fits rate frames) e
+    where
+      by : (t : Bool) → cond t (Some (wav_header rate frames)) None ≡ Some b → t ≡ true
+      by true e = refl
+      by false e = cc
+
+  pub fits-none : header_of rate frames ≡ None → wav_fits rate frames ≡ false
+  unfolding header_of
+  fits-none e = by (wav_fits rate frames) e
+    where
+      by : (t : Bool) → cond t (Some (wav_header rate frames)) None ≡ None → t ≡ false
+      by true e = cc
+      by false e = refl

@@ -1,8 +1,7 @@
 -- A sound file: RIFF/WAVE, PCM, two channels, 16 bits, little-endian. Assumes nothing.
-use Rattle.std.specs.Prelude.{ℕ, zero, suc, ◌+◌, ◌*◌, ◌/◌, ◌%◌, ◌≡◌, Bool, cond, ◌&&◌, List, [], ◌∷◌, ◌++◌, leb, ℤ, length, take, drop, replicate}
+use Rattle.std.specs.Prelude.{ℕ, zero, suc, ◌+◌, ◌*◌, ◌/◌, ◌%◌, ◌≡◌, Bool, cond, ◌&&◌, List, [], ◌∷◌, ◌++◌, leb, ℤ, length, take, drop, Option, Some, None}
 use Rattle.std.specs.Int.{w16}
 use Rattle.std.proofs.Common.{of_z}
-use Rattle.wav.specs.declared.FileHeader.{FileHeader}
 
 -- the low k bytes of n, the lowest first
 unfoldable pub little : ℕ → ℕ → List ℕ
@@ -34,8 +33,9 @@ wav_header rate frames =
 abbrev pub wav_fits : ℕ → ℕ → Bool
 wav_fits rate frames = leb (4 * rate) 0xFFFF_FFFF && leb (36 + 4 * frames) 0xFFFF_FFFF
 
-unfoldable pub header_of : ℕ → ℕ → FileHeader
-header_of rate frames = record { fits = wav_fits rate frames; bytes = cond (wav_fits rate frames) (wav_header rate frames) (replicate 44 0) }
+-- none where a number does not
+unfoldable pub header_of : ℕ → ℕ → Option (List ℕ)
+header_of rate frames = cond (wav_fits rate frames) (Some (wav_header rate frames)) None
 
 -- each cell in two bytes, two's complement
 unfoldable pub cell_bytes : List ℤ → List ℕ

@@ -10,8 +10,8 @@ first_free-free-requires c = c.requires.few
 pub first_lowest-requires : goal.first_lowest-requires
 first_lowest-requires c = c.requires.few
 
-pub returns-in-Voice : goal.returns-in-Voice
-returns-in-Voice c = sym (allocated-free c.args.m c.args.priority _ (sym c.first_free-free.ensures ∙ ap told_place c.in-Voice.is))
+pub returns-in-Some : goal.returns-in-Some
+returns-in-Some c = sym (allocated-free c.args.m c.args.priority _ (sym c.first_free-free.ensures ∙ ap told_place c.in-Some.is))
 
 pub returns-in-FreeChannelOnly : goal.returns-in-FreeChannelOnly
 returns-in-FreeChannelOnly c =

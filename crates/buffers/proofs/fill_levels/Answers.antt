@@ -28,7 +28,7 @@ whole x = block-whole mono_next pcm_of x.block_len-n.result x.loop-at.state _ x.
 pub loop-at-preserved : goal.loop-at-preserved
 loop-at-preserved c =
     let a = c.args in
-    (level-turn a.level a.p a.out.now _ _ _ c.requires.2 c.loop-at.invariant.0 (omega (arith, c.block_len-n.ensures)) (fits (goal.at.loop-at-preserved c).After-block_len-n) c.sound-state.ensures c.put_levels-mapper.ensures.0 c.put_levels-mapper.ensures.1, whole (goal.at.loop-at-preserved c).After-sound-state.before)
+    (level-turn a.level a.p a.out.now _ _ _ c.requires.1 c.loop-at.invariant.0 (omega (arith, c.block_len-n.ensures)) (fits (goal.at.loop-at-preserved c).After-block_len-n) c.sound-state.ensures c.put_levels-mapper.ensures.0 c.put_levels-mapper.ensures.1, whole (goal.at.loop-at-preserved c).After-sound-state.before)
 
 pub loop-at-init : goal.loop-at-init
 loop-at-init c = (filling-start _ _ _ _ _ _ c.requires.0, refl)
@@ -44,7 +44,7 @@ slice_bounds-put_levels-end c = sym (whole (goal.at.slice_bounds-put_levels-end 
 
 pub put_levels-mapper-requires : goal.put_levels-mapper-requires
 put_levels-mapper-requires c =
-    (omega (arith, whole (goal.at.put_levels-mapper-requires c).After-sound-state.before, c.block_len-n.ensures), omega (arith, fits (goal.at.put_levels-mapper-requires c).After-block_len-n, long (goal.at.put_levels-mapper-requires c).At-loop-at), c.sound-state.ensures.state.valid.mapper, c.requires.1)
+    (omega (arith, whole (goal.at.put_levels-mapper-requires c).After-sound-state.before, c.block_len-n.ensures), omega (arith, fits (goal.at.put_levels-mapper-requires c).After-block_len-n, long (goal.at.put_levels-mapper-requires c).At-loop-at), c.sound-state.ensures.state.valid.mapper)
 
 pub overflow_add-at : goal.overflow_add-at
 overflow_add-at c = omega (arith, fits (goal.at.overflow_add-at c).After-block_len-n, c.well_formed.1.1.1.0.0)

@@ -4,13 +4,13 @@ use Rattle.exports_parts.proofs.Ready.{opening-refused, opening-done}
 use Rattle.exports_play.specs.Plays.{told, calls}
 use Rattle.exports_play.proofs.ready.Goals as goal
 
-pub returns-in-Refused : goal.returns-in-Refused
-returns-in-Refused c =
+pub returns-in-Err : goal.returns-in-Err
+returns-in-Err c =
     let o = rw c.policy_of-policy.ensures at c.open-opened.ensures.same in
-    record { same = opening-refused calls _ _ _ _ _ _ _ (ap told o) c.in-Refused.is; valid = c.open-opened.ensures.valid }
+    record { same = opening-refused calls _ _ _ _ _ _ _ (ap told o) c.in-Err.is; valid = c.open-opened.ensures.valid }
 
-pub returns-in-Done : goal.returns-in-Done
-returns-in-Done c =
+pub returns-in-Ok : goal.returns-in-Ok
+returns-in-Ok c =
     let o = rw c.policy_of-policy.ensures at c.open-opened.ensures.same in
     let b = c.set_bank.ensures in
-    record { same = ap told b.same ∙ opening-done calls _ _ _ _ _ _ _ (ap told o) c.in-Done.is; valid = b.valid }
+    record { same = ap told b.same ∙ opening-done calls _ _ _ _ _ _ _ (ap told o) c.in-Ok.is; valid = b.valid }

@@ -1,16 +1,10 @@
 -- `exports_replay::answers` meets its contract: what is left of the run, from each line on, is the run. The measure is what is left of the script.
-use borrow.Author.Rules.{rules}
-use borrow.Author.Tests.{ltb-true, ltb-false}
-use mathlib.Core.Path.{◌≡◌, refl, sym, ap, ◌∙◌}
-use mathlib.Core.List.{List}
-use Prim.Native.Nat.{ℕ, ◌-◌, ◌≤◌}
+use mathlib.Core.Path.{◌≡◌, refl, sym, ◌∙◌}
+use Prim.Native.Nat.{◌-◌, ◌≤◌}
 use native.Mathlib.Omega.{arith}
-use lib.ListN.{length}
-use lib.Seq.{length-take-le, sets}
-use Rattle.replay_session.specs.Sessions.{ValidSession}
-use Rattle.replay_session.specs.declared.Session.{Session}
-use Rattle.exports_replay.specs.Runs.{answered, no_cells}
-use Rattle.exports_replay.proofs.Going.{Going, going_start, going-turn, going-bad, going_end, text_of, text-fits}
+use lib.Seq.{length-take-le}
+use Rattle.exports_replay.specs.Runs.{no_cells}
+use Rattle.exports_replay.proofs.Going.{going_start, going-turn, going-bad, going_end, text_of, text-fits}
 use Rattle.exports_replay.proofs.answers.Invariants.{text}
 use Rattle.exports_replay.proofs.answers.Goals as goal
 

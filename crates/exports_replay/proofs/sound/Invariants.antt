@@ -1,18 +1,13 @@
 -- `exports_replay::sound` meets its contract: what is left of the run, from each line on, is the run. The measure is what is left of the script.
-use borrow.Author.Rules.{rules}
-use borrow.Author.Tests.{ltb-true, ltb-false}
-use mathlib.Core.Path.{◌≡◌, refl, sym, ap, ◌∙◌}
+use mathlib.Core.Path.{◌≡◌, ◌∙◌}
 use mathlib.Core.List.{List}
 use Prim.Native.Nat.{ℕ, ◌-◌, ◌≤◌}
-use native.Mathlib.Omega.{arith}
 use lib.IntN.{ℤ}
 use lib.ListN.{length, take}
-use lib.Seq.{length-take-le, sets}
 use Rattle.replay_session.specs.Sessions.{ValidSession}
 use Rattle.replay_session.specs.declared.Session.{Session}
 use Rattle.render_sounds.specs.Sounds.{sound_of}
-use Rattle.exports_replay.specs.Runs.{no_cells}
-use Rattle.exports_replay.proofs.Going.{Going, going_start, going-turn, going-bad, going_end, sound-of, sound-fits}
+use Rattle.exports_replay.proofs.Going.{Going}
 use Rattle.exports_replay.proofs.sound.Given as goal
 
 abbrev pub cells : Session → List ℕ → List ℕ → List ℤ

@@ -1,44 +1,40 @@
 -- `fixed::lerp_i8` meets its contract. Each value on the way fits, and the last lies between a and b.
-use Rattle.std.proofs.Common.{w8, w32}
+use Rattle.std.proofs.Common.{◌≡◌, ◌∙◌, pos, w8, w32}
 use mir.ValLaws.{to_z-of_z}
-use Rattle.laws.proofs.Signed.{signed, to_z-nat}
 use Rattle.fixed.proofs.Laws.{Toward, toward-fits}
-use Rattle.fixed.proofs.lerp_i8.Goals.{Start}
+use Rattle.fixed.proofs.lerp_i8.Goals.{After-from-2}
 use Rattle.fixed.proofs.lerp_i8.Goals as goal
 
-fit_c : (c : Start) → Toward c.args.a c.args.b c.args.frac
-fit_c c = toward-fits _ _ _ c.ranges.a c.ranges.b c.ranges.frac
+-- the three values widened, and what fits on the way
+record Way (c : After-from-2) : Type 0 where
+  x : c.from-x.result ≡ c.args.a
+  y : c.from.result ≡ c.args.b
+  t : c.from-2.result ≡ pos c.args.frac
+  fit : Toward c.args.a c.args.b c.args.frac
 
-pub overflow_cast-x : goal.overflow_cast-x
-overflow_cast-x c = let f = fit_c c in search signed
-
-pub overflow_cast-d : goal.overflow_cast-d
-overflow_cast-d c = let f = fit_c c in search signed
-
-pub overflow_sub-d : goal.overflow_sub-d
-overflow_sub-d c = let f = fit_c c in search signed
-
-pub overflow_cast-result : goal.overflow_cast-result
-overflow_cast-result c = let f = fit_c c in search signed
-
-pub overflow_mul-result : goal.overflow_mul-result
-overflow_mul-result c = let f = fit_c c in search signed
-
-pub nonzero_div-result : goal.nonzero_div-result
-nonzero_div-result c = let f = fit_c c in search signed
+way_c : (c : After-from-2) → Way c
+way_c c =
+    record {
+      x = c.from-x.ensures ∙ to_z-of_z w8 _ c.ranges.a;
+      y = c.from.ensures ∙ to_z-of_z w8 _ c.ranges.b;
+      t = c.from-2.ensures;
+      fit = toward-fits _ _ _ c.ranges.a c.ranges.b c.ranges.frac;
+    }
 
 pub overflow_add-result : goal.overflow_add-result
-overflow_add-result c = let f = fit_c c in search signed
+overflow_add-result c =
+    let w = way_c (goal.at.overflow_add-result c).After-from-2 in
+    let f = w.fit in
+    simp (w.x, w.y, w.t, to_z-of_z w32 _ f.from, to_z-of_z w32 _ f.to, to_z-of_z w32 _ f.part, to_z-of_z w32 _ f.dist, to_z-of_z w32 _ f.prod, to_z-of_z w32 _ f.quot) f.sum
 
-pub overflow_cast-result-2 : goal.overflow_cast-result-2
-overflow_cast-result-2 c =
-    let f = fit_c c in
-    simp
-    (to_z-of_z w8 _ c.ranges.a, to_z-of_z w8 _ c.ranges.b, to_z-of_z w32 _ f.from, to_z-of_z w32 _ f.to, to_z-nat f.part, to_z-of_z w32 _ f.dist, to_z-of_z w32 _ f.prod, to_z-of_z w32 _ f.quot, to_z-of_z w32 _ f.sum)
-    f.byte
+pub overflow_cast-result : goal.overflow_cast-result
+overflow_cast-result c =
+    let w = way_c (goal.at.overflow_cast-result c).After-from-2 in
+    let f = w.fit in
+    simp (w.x, w.y, w.t, to_z-of_z w32 _ f.from, to_z-of_z w32 _ f.to, to_z-of_z w32 _ f.part, to_z-of_z w32 _ f.dist, to_z-of_z w32 _ f.prod, to_z-of_z w32 _ f.quot, to_z-of_z w32 _ f.sum) f.byte
 
 pub returns : goal.returns
 returns c =
-    let f = fit_c c in
-    simp
-    (to_z-of_z w8 _ c.ranges.a, to_z-of_z w8 _ c.ranges.b, to_z-of_z w32 _ f.from, to_z-of_z w32 _ f.to, to_z-nat f.part, to_z-of_z w32 _ f.dist, to_z-of_z w32 _ f.prod, to_z-of_z w32 _ f.quot, to_z-of_z w32 _ f.sum, to_z-of_z w8 _ f.byte)
+    let w = way_c (goal.at.returns c).After-from-2 in
+    let f = w.fit in
+    simp (w.x, w.y, w.t, to_z-of_z w32 _ f.from, to_z-of_z w32 _ f.to, to_z-of_z w32 _ f.part, to_z-of_z w32 _ f.dist, to_z-of_z w32 _ f.prod, to_z-of_z w32 _ f.quot, to_z-of_z w32 _ f.sum, to_z-of_z w8 _ f.byte)

@@ -1,7 +1,7 @@
 -- `fixed::pressed` meets its contract. Past an excess of 992 the quotient no longer grows, so 1,024 stands for all of them.
 -- what the excess that the code takes is: at most 1,024, and its quotient is the whole excess's
 use Prim.Native.Nat.{zero}
-use Rattle.std.proofs.Common.{◌≡◌, ℕ, suc, ◌+◌, ◌-◌, ◌*◌, ◌/◌, ◌<◌, ◌≤◌, sym, ◌∙◌, inl, inr, mul-le-mul, arith, rules, le-leb}
+use Rattle.std.proofs.Common.{◌≡◌, ℕ, suc, ◌+◌, ◌-◌, ◌*◌, ◌/◌, ◌<◌, ◌≤◌, sym, ◌∙◌, mul-le-mul, arith, le-leb}
 use borrow.Author.Tests.{lt-leb}
 use Rattle.laws.proofs.Signed.{pressed<}
 use Rattle.fixed.proofs.Laws.{knee-top}

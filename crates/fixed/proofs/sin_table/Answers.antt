@@ -1,11 +1,11 @@
 -- `fixed::sin_table` meets its contract. That the one product is the sine of both halves, and low, is a test over all its places.
 -- 255 − 2x, its product with y, and the 256th part of that
-use Rattle.std.proofs.Common.{◌≡◌, ℕ, ◌-◌, ◌*◌, ◌<◌, min, ℤ, pos, ◌-ℤ◌, ◌*ℤ◌, arith, w8, w16, SFits, rules}
+use Rattle.std.proofs.Common.{◌≡◌, ℕ, ◌-◌, ◌*◌, ◌<◌, min, ℤ, pos, ◌-ℤ◌, ◌*ℤ◌, arith, w8, w16, SFits}
 use lib.Signed.{quot_z}
 use mir.ValLaws.{to_z-of_z}
 use mir.Facts.{sfits_widen}
 use Rattle.laws.proofs.Finite.{same_at, fits-at}
-use Rattle.laws.proofs.Signed.{signed, to_z-nat}
+use Rattle.laws.proofs.Signed.{to_z-nat}
 use Rattle.fixed.specs.Fixed.{sine}
 use Rattle.fixed.proofs.sin_table.Goals.{After-fold-y}
 use Rattle.fixed.proofs.sin_table.Goals as goal
@@ -33,9 +33,9 @@ product : (x : ℕ) → x < 256 → Product x (folded x)
 product x h =
     let low = fits-at w8 (λ n. part n (folded n)) 0 256 tt x (omega arith) h in
     record {
-      place = fits-at w16 pos 0 256 tt x (omega arith) h;
-      rise = fits-at w16 (λ n. pos (folded n)) 0 256 tt x (omega arith) h;
-      twice = fits-at w16 (λ n. pos 2 *ℤ pos n) 0 256 tt x (omega arith) h;
+      place = record { sfits = omega arith };
+      rise = record { sfits = omega arith };
+      twice = record { sfits = omega arith };
       signed-factor = fits-at w16 factor 0 256 tt x (omega arith) h;
       prod = fits-at w16 (λ n. pos (folded n) *ℤ factor n) 0 256 tt x (omega arith) h;
       quot = sfits_widen tt low;
@@ -46,34 +46,14 @@ product x h =
 product_c : (c : After-fold-y) → Product c.args.index c.fold-y.result
 product_c c = rw c.fold-y.ensures (product c.args.index (omega arith))
 
-pub overflow_cast-y : goal.overflow_cast-y
-overflow_cast-y c = let f = product_c c in search signed
-
-pub overflow_cast-up : goal.overflow_cast-up
-overflow_cast-up c = let f = product_c c in search signed
-
-pub overflow_mul-up : goal.overflow_mul-up
-overflow_mul-up c = let f = product_c c in search signed
-
-pub overflow_sub-result : goal.overflow_sub-result
-overflow_sub-result c = let f = product_c c in search signed
-
 pub overflow_mul-result : goal.overflow_mul-result
-overflow_mul-result c = let f = product_c c in search signed
-
-pub nonzero_div-result : goal.nonzero_div-result
-nonzero_div-result c = let f = product_c c in search signed
-
-pub overflow_cast-result : goal.overflow_cast-result
-overflow_cast-result c =
-    let f = product_c c in
-    simp
-    (to_z-nat f.place, to_z-nat f.rise, to_z-of_z w16 _ f.twice, to_z-of_z w16 _ f.signed-factor, to_z-of_z w16 _ f.prod, to_z-of_z w16 _ f.quot)
-    f.byte
+overflow_mul-result c =
+    let f = product_c (goal.at.overflow_mul-result c).After-fold-y in
+    simp (c.from-up.ensures, to_z-of_z w16 _ f.place, to_z-nat f.rise, to_z-of_z w16 _ f.twice, to_z-of_z w16 _ f.signed-factor) f.prod
 
 pub returns : goal.returns
 returns c =
-    let f = product_c c in
+    let f = product_c (goal.at.returns c).After-fold-y in
     simp
-    (to_z-nat f.place, to_z-nat f.rise, to_z-of_z w16 _ f.twice, to_z-of_z w16 _ f.signed-factor, to_z-of_z w16 _ f.prod, to_z-of_z w16 _ f.quot, to_z-of_z w8 _ f.byte)
+    (c.from-up.ensures, to_z-of_z w16 _ f.place, to_z-nat f.rise, to_z-of_z w16 _ f.twice, to_z-of_z w16 _ f.signed-factor, to_z-of_z w16 _ f.prod, to_z-of_z w16 _ f.quot, to_z-of_z w8 _ f.byte)
     f.is

@@ -1,9 +1,6 @@
--- From turn to turn the box stays valid. The measure is the number of turns that are left.
+-- From turn to turn the box stays valid.
 use Rattle.sounder.specs.Sounders.{ValidSounder}
 use Rattle.framelist.proofs.main.Given as goal
 
-abbrev pub invariant-loop-turns : goal.invariant-loop-turns
-invariant-loop-turns l = ValidSounder l.r.sounder
-
-abbrev pub decreases-loop-turns : goal.decreases-loop-turns
-decreases-loop-turns l = l.turns
+abbrev pub invariant-loop : goal.invariant-loop
+invariant-loop l = ValidSounder l.r.sounder

@@ -1,4 +1,4 @@
--- What is left of the run, from each turn on, is the run. The measure is the frames left. Assumes nothing.
+-- What is left of the run, from each turn on, is the run. Assumes nothing.
 use mathlib.Core.Path.{refl, ap}
 use native.Mathlib.Omega.{arith}
 use Rattle.hex_digits.proofs.Texts.{shown, then}
@@ -7,28 +7,28 @@ use Rattle.framelist_answers.specs.Lines.{next, duty_line}
 use Rattle.framelist_answers.proofs.Frames.{going_start, going-turn, going_end, going-same}
 use Rattle.framelist_answers.proofs.frames_answer.Goals as goal
 
-pub loop-left-preserved : goal.loop-left-preserved
-loop-left-preserved c =
-    let v = c.loop-left.invariant in
+pub loop-preserved : goal.loop-preserved
+loop-preserved c =
+    let v = c.loop.invariant in
     let same = c.ticked-d.ensures.same in (
-      going-turn next duty_line c.loop-left-test.true (ap (λ (d : SounderDuty). d.sounder) same) v.0
+      going-turn next duty_line c.loop-test.true (ap (λ (d : SounderDuty). d.sounder) same) v.0
           (then (shown 4 (ap (λ (d : SounderDuty). d.duty) same) c.put-digits.ensures.0) c.end_line-at.ensures.0),
       c.ticked-d.ensures.valid,
-      omega (arith, c.put-digits.ensures.1, c.end_line-at.ensures.1),
+      omega (arith, v.2, c.put-digits.ensures.1, c.end_line-at.ensures.1),
     )
 
 pub returns : goal.returns
 returns c =
-    let l = c.loop-left in
-    let z = c.loop-left-test.false in
+    let l = c.loop in
+    let z = c.loop-test.false in
     record {
       laid = going_end next duty_line z (omega (arith, l.invariant.2, c.ranges.count)) l.invariant.0;
       more = refl;
       sounder = record { same = going-same next duty_line z l.invariant.0; valid = l.invariant.1 };
     }
 
-pub loop-left-init : goal.loop-left-init
-loop-left-init c = (going_start next duty_line _ _ _, c.requires, omega arith)
+pub loop-init : goal.loop-init
+loop-init c = (going_start next duty_line _ _ _, c.requires, omega arith)
 
 pub ticked-d-requires : goal.ticked-d-requires
-ticked-d-requires c = c.loop-left.invariant.1
+ticked-d-requires c = c.loop.invariant.1

@@ -1,30 +1,35 @@
--- `hex_digits::bytes_from` meets its contract: what is stored so far is the first i bytes. The measure is the stores left.
-use borrow.Author.Rules.{rules}
-use mathlib.Core.Path.{◌≡◌, ◌∙◌}
-use Prim.Native.Nat.{ℕ, suc, ◌+◌, ◌-◌, ◌≤◌, min}
+-- `hex_digits::bytes_from` meets its contract: what is stored so far is the first i bytes.
+use mathlib.Core.Path.{◌≡◌}
+use mathlib.Core.List.{List, [], ◌++◌}
+use Prim.Native.Nat.{ℕ, suc, ◌+◌, ◌≤◌}
 use native.Mathlib.Nat.{add-zero}
 use native.Mathlib.Omega.{arith}
-use Rattle.laws.proofs.Stores.{Wrote, wrote_none, front-one}
-use Rattle.hex_digits.specs.Hex.{byte_at}
+use lib.ListN.{length, take, drop, length-take, drop_of_length-le}
+use lib.Seq.{sets}
+use Rattle.std.proofs.Common.{append-nil}
+use Rattle.laws.proofs.Stores.{length-cells, wrote_none, front-one, sets-front}
+use Rattle.hex_digits.specs.Hex.{byte_at, bytes_from}
 use Rattle.hex_digits.proofs.bytes_from.Goals as goal
 
+-- a front part that is filled is filled in the whole
+filled : (cells part xs : List ℕ) (m : ℕ) → length xs ≡ m → m ≤ length cells → part ≡ sets (take m cells) 0 xs → part ++ drop m cells ≡ sets cells 0 xs
+filled cells part xs m n h e =
+    let k : length (take m cells) ≡ m = omega (arith, length-take m cells) in
+    let none : drop m (take m cells) ≡ [] = drop_of_length-le (take m cells) (omega arith) in
+    rw (e, sets-front (take m cells) xs m n (omega arith), none, sets-front cells xs m n h, append-nil)
+
 pub loop-i-init : goal.loop-i-init
-loop-i-init c = (omega arith, rw (add-zero c.args.k) (wrote_none _ _))
-
-pub overflow_add-k : goal.overflow_add-k
-overflow_add-k c = omega (arith, c.loop-i-test.true, c.at_most_4096-m.ensures.1, c.ranges.k)
-
-pub bounds-cells-i : goal.bounds-cells-i
-bounds-cells-i c = omega (arith, c.loop-i-test.true, c.at_most_4096-m.ensures.1)
+loop-i-init c = rw (add-zero c.args.k) (wrote_none _ _)
 
 pub loop-i-preserved : goal.loop-i-preserved
 loop-i-preserved c =
-    let k = c.args.k in
-    let e : k + (c.loop-i.i + 1) ≡ suc (k + c.loop-i.i) = omega arith in
-    (omega (arith, c.loop-i-test.true), rw (c.byte_at.ensures, e) (front-one _ _ c.loop-i.invariant.1))
+    let e : c.args.k + (c.loop-i.i + 1) ≡ suc (c.args.k + c.loop-i.i) = omega arith in
+    rw (c.byte_at.ensures, c.from.ensures, e) (front-one _ _ c.loop-i.invariant)
 
 pub returns : goal.returns
 returns c =
-    let a = c.at_most_4096-m in
-    let e : c.loop-i.i ≡ min c.args.n 4096 = omega (arith, c.loop-i.invariant.0, c.loop-i-test.false, a.ensures.0) in
-    rw (← e) c.loop-i.invariant.1.stored
+    let a = c.args in
+    let m = c.min.result in
+    let k : length (take m a.cells.now) ≡ m = omega (arith, length-take m a.cells.now, c.min.ensures) in
+    let e : c.loop-i.i ≡ m = omega arith in
+    rw (← c.min.ensures) (filled a.cells.now c.loop-i.cell-items (bytes_from a.l.now a.k m) m (length-cells suc (λ (j : ℕ). byte_at a.l.now j) m a.k) (omega (arith, c.min.ensures)) (rw e at c.loop-i.invariant.stored))

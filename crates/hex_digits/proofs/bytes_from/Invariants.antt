@@ -1,15 +1,8 @@
--- `hex_digits::bytes_from` meets its contract: what is stored so far is the first i bytes. The measure is the stores left.
-use borrow.Author.Rules.{rules}
-use mathlib.Core.Path.{◌≡◌, ◌∙◌}
-use Prim.Native.Nat.{ℕ, suc, ◌+◌, ◌-◌, ◌≤◌, min}
-use native.Mathlib.Nat.{add-zero}
-use native.Mathlib.Omega.{arith}
-use Rattle.laws.proofs.Stores.{Wrote, wrote_none, front-one}
+-- `hex_digits::bytes_from` meets its contract: what is stored so far is the first i bytes.
+use Prim.Native.Nat.{ℕ, suc, ◌+◌}
+use Rattle.laws.proofs.Stores.{Wrote}
 use Rattle.hex_digits.specs.Hex.{byte_at}
 use Rattle.hex_digits.proofs.bytes_from.Given as goal
 
 abbrev pub invariant-loop-i : goal.invariant-loop-i
-invariant-loop-i w = (w.i ≤ w.m) × Wrote suc (λ (j : ℕ). byte_at w.l j) w.k w.initial.cells 0 w.i (w.k + w.i) w.cells
-
-abbrev pub decreases-loop-i : goal.decreases-loop-i
-decreases-loop-i w = w.m - w.i
+invariant-loop-i l = Wrote suc (λ (j : ℕ). byte_at l.l j) l.k l.initial.cell-items 0 l.i (l.k + l.i) l.cell-items

@@ -1,5 +1,4 @@
 -- `hex_digits::put_four` meets its contract: four texts, one after the other.
-use borrow.Author.Rules.{rules}
 use Rattle.hex_digits.proofs.Texts.{length-four_of, placed, then}
 use Rattle.hex_digits.proofs.put_four.Goals as goal
 

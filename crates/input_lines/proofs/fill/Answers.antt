@@ -1,31 +1,30 @@
--- What the rest of the chunk makes of the line, from each turn on, is what all of it makes. Assumes nothing.
-use Prim.Native.Nat.{◌-◌}
+-- `input_lines::fill` meets its contract: what the rest of the chunk makes of the line is what all of it makes.
 use native.Mathlib.Omega.{arith}
-use mathlib.Core.Path.{◌≡◌, refl, sym, ◌∙◌}
-use lib.ListN.{length, drop, length-set}
-use Rattle.input_lines.specs.Lines.{lined}
+use mathlib.Core.Path.{◌≡◌, sym, ◌∙◌}
+use lib.ListN.{length-set}
 use Rattle.input_lines.proofs.Laws.{at-end, at-newline, no_room, one_more, fills}
+use Rattle.input_lines.proofs.fill.Goals.{then-b-eq10-via-then-b-eq10, then-b-eq10-via-else-b-eq10+then-n-line}
 use Rattle.input_lines.proofs.fill.Goals as goal
-
-pub loop-i-init : goal.loop-i-init
-loop-i-init c = (refl, refl)
 
 pub returns-then-b-eq10 : goal.returns-then-b-eq10
 returns-then-b-eq10 c =
     let l = c.loop-i in
-    fills (sym l.invariant.1 ∙ at-newline l.line l.n _ l.i c.loop-i-test.true c.if-b-eq10.true)
-
-pub returns-then-n-line : goal.returns-then-n-line
-returns-then-n-line c =
-    let l = c.loop-i in
-    fills (sym l.invariant.1 ∙ no_room l.line l.n _ l.i c.loop-i-test.true c.if-n-line.true)
+    elim c.then-b-eq10.branch [
+      | then-b-eq10-via-then-b-eq10 w ↦ fills (sym l.invariant.rest ∙ at-newline l.line l.n _ l.i c.loop-i-test.true w.if-b-eq10.true)
+      | then-b-eq10-via-else-b-eq10+then-n-line w ↦ fills (sym l.invariant.rest ∙ no_room l.line l.n _ l.i c.loop-i-test.true w.if-n-line.true)
+    ]
 
 pub loop-i-preserved : goal.loop-i-preserved
 loop-i-preserved c =
     let l = c.loop-i in
-    (rw length-set l.invariant.0, one_more l.line l.n _ l.i c.loop-i-test.true c.if-b-eq10.false c.if-n-line.false ∙ l.invariant.1)
+    record {
+      room = rw length-set l.invariant.room;
+      within = omega arith;
+      rest = one_more l.line l.n _ l.i c.loop-i-test.true c.if-b-eq10.false c.if-n-line.false ∙ l.invariant.rest;
+    }
 
 pub returns : goal.returns
 returns c =
     let l = c.loop-i in
-    fills (sym l.invariant.1 ∙ at-end l.line l.n _ l.i c.loop-i-test.false)
+    let e : c.max.result ≡ l.i = omega (arith, c.max.ensures) in
+    rw e (fills (sym l.invariant.rest ∙ at-end l.line l.n _ l.i c.loop-i-test.false))

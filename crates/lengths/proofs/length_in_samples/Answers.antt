@@ -1,5 +1,4 @@
 -- `lengths::length_in_samples` meets its contract: nothing is carried.
-use borrow.Author.Rules.{rules}
 use native.Mathlib.Omega.{arith}
 use Prim.Native.Nat.{ℕ, ◌+◌, ◌*◌}
 use mathlib.Core.Path.{◌≡◌, ◌∙◌}

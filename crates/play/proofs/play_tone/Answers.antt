@@ -3,18 +3,18 @@ use mathlib.Core.Path.{sym, ap, ◌∙◌}
 use Rattle.start.proofs.Laws.{at-rate}
 use Rattle.play.specs.Plays.{toned}
 use Rattle.error.proofs.Told.{value-is, not-refused}
-use Rattle.start.specs.Starts.{told_start}
 use Rattle.play.proofs.play_tone.Goals as goal
+use Rattle.error.specs.Told.{told}
 
 pub first_sounding-requires : goal.first_sounding-requires
-first_sounding-requires c = record { valid = c.requires; valid_2 = rw c.in-Voice.is at c.tone_voice.ensures.valid }
+first_sounding-requires c = record { valid = c.requires; valid_2 = rw c.in-Ok.is at c.tone_voice.ensures.valid }
 
-pub returns-in-Voice : goal.returns-in-Voice
+pub returns-in-Ok : goal.returns-in-Ok
 unfolding toned
-returns-in-Voice c =
+returns-in-Ok c =
     let r = c.first_sounding.ensures in
-    let e = value-is (sym (ap told_start c.in-Voice.is) ∙ c.tone_voice.ensures.same ∙ at-rate _ _ c.requires.rate) in
+    let e = value-is (sym (ap told c.in-Ok.is) ∙ c.tone_voice.ensures.same ∙ at-rate _ _ c.requires.rate) in
     record { same = rw (r.same, e); valid = r.valid }
 
-pub returns-in-Refused : goal.returns-in-Refused
-returns-in-Refused c = not-refused (sym (c.tone_voice.ensures.same ∙ at-rate _ _ c.requires.rate) ∙ ap told_start c.in-Refused.is)
+pub returns-in-Err : goal.returns-in-Err
+returns-in-Err c = not-refused (sym (c.tone_voice.ensures.same ∙ at-rate _ _ c.requires.rate) ∙ ap told c.in-Err.is)

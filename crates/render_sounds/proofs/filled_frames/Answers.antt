@@ -1,6 +1,5 @@
 -- `render_sounds::filled_frames` meets its contract: the tests are the definition's.
-use borrow.Author.Rules.{rules}
-use borrow.Author.Tests.{not-true, not-false, le-leb, lt-leb}
+use borrow.Author.Tests.{le-leb, lt-leb}
 use mathlib.Core.Path.{◌≡◌, sym, ◌∙◌}
 use mathlib.Core.Bool.{true}
 use Rattle.replay_session.specs.Sessions.{fill_allowed}

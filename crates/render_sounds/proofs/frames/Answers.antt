@@ -1,6 +1,5 @@
 -- `render_sounds::frames` meets its contract: the tests are the definition's.
-use borrow.Author.Rules.{rules}
-use borrow.Author.Tests.{not-true, not-false, le-leb, lt-leb}
+use borrow.Author.Tests.{le-leb, lt-leb}
 use mathlib.Core.Path.{◌≡◌, sym, ◌∙◌}
 use mathlib.Core.Bool.{true}
 use Rattle.render_sounds.specs.Sounds.{frames_of}

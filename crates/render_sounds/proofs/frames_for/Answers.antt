@@ -1,5 +1,4 @@
 -- `render_sounds::frames_for` meets its contract: each way through the tests is the definition's.
-use borrow.Author.Rules.{rules}
 use mathlib.Core.Path.{sym, ◌∙◌}
 use Rattle.render_sounds.specs.Sounds.{frames_for}
 use Rattle.render_sounds.proofs.frames_for.Goals as goal

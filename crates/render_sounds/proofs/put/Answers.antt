@@ -1,5 +1,4 @@
 -- `render_sounds::put` meets its contract: what the box's buffer calls promise of the first cells.
-use borrow.Author.Rules.{rules}
 use mathlib.Core.Path.{sym}
 use Prim.Native.Nat.{◌*◌}
 use lib.Seq.{length-take-le}

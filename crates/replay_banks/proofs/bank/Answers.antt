@@ -13,7 +13,7 @@ returns c =
     let few : c.room-n.result ≤ 4096 = omega (arith, c.room-n.ensures) in
     let e : c.room-n.result ≡ room_at l = c.room-n.ensures ∙ ap (λ (x : ℕ). min x 4096) c.wide_at.ensures in
     rw (sym e)
-    (shown few c.blank-cells.ensures c.write_rest-word.new.out c.write_rest-word.auto.out (rw (lent_length few c.blank-cells.ensures) at c.write_rest-word.ensures) c.put_u8s.ensures)
+    (shown few c.blank-cells.ensures c.write_rest-word.new.out c.write_rest-word.auto.out (rw (lent_length few c.blank-cells.ensures) at c.write_rest-word.ensures) c.put_cells.ensures)
 
 pub slice_bounds-write_rest-end : goal.slice_bounds-write_rest-end
 slice_bounds-write_rest-end c = sym (lent_length (omega (arith, c.room-n.ensures)) c.blank-cells.ensures)
@@ -22,6 +22,6 @@ pub slice_bounds-cells-end-2 : goal.slice_bounds-cells-end-2
 slice_bounds-cells-end-2 c =
     back_fits (omega (arith, c.room-n.ensures)) c.blank-cells.ensures c.write_rest-word.new.out c.write_rest-word.auto.out
 
-pub slice_bounds-put_u8s-end : goal.slice_bounds-put_u8s-end
-slice_bounds-put_u8s-end c =
+pub slice_bounds-put_cells-end : goal.slice_bounds-put_cells-end
+slice_bounds-put_cells-end c =
     sym (back-length (omega (arith, c.room-n.ensures)) c.blank-cells.ensures c.write_rest-word.new.out c.write_rest-word.auto.out)

@@ -16,16 +16,16 @@ all_left e l = take_all (length l - e) (drop e l) (rw length-drop (omega arith))
 pub slice_bounds-entries_from-end : goal.slice_bounds-entries_from-end
 slice_bounds-entries_from-end c = sym (length-take-le c.end_of-end.result _ (omega (arith, c.end_of-end.ensures)))
 
-pub returns-in-Refused : goal.returns-in-Refused
+pub returns-in-Err : goal.returns-in-Err
 unfolding bank_of
-returns-in-Refused c =
+returns-in-Err c =
     let rest = c.args.rest.now in
-    let v = rw c.in-Refused.is at c.write_bank.ensures in
-    rw (sym c.byte_at-count.ensures, sym c.end_of-end.ensures, sym c.entries_from-entries.ensures, sym c.header.ensures, sym (all_left c.end_of-end.result rest), c.number.ensures) (left-refused v)
+    let v = rw c.in-Err.is at c.write_bank.ensures in
+    rw (sym c.byte_at-count.ensures, sym c.end_of-end.ensures, sym c.entries_from-entries.ensures, sym c.header.ensures, sym (all_left c.end_of-end.result rest), sym c.from.ensures, c.from-in-Err-2.ensures, c.from-in-Err.ensures) (left-refused v)
 
-pub returns-in-Length : goal.returns-in-Length
+pub returns-in-Ok : goal.returns-in-Ok
 unfolding bank_of
-returns-in-Length c =
+returns-in-Ok c =
     let rest = c.args.rest.now in
-    let v = rw c.in-Length.is at c.write_bank.ensures in
-    rw (sym c.byte_at-count.ensures, sym c.end_of-end.ensures, sym c.entries_from-entries.ensures, sym c.header.ensures, sym (all_left c.end_of-end.result rest)) (left-length v)
+    let v = rw c.in-Ok.is at c.write_bank.ensures in
+    rw (sym c.byte_at-count.ensures, sym c.end_of-end.ensures, sym c.entries_from-entries.ensures, sym c.header.ensures, sym (all_left c.end_of-end.result rest), sym c.from.ensures) (left-length v)

@@ -1,5 +1,4 @@
 -- `replay_calls::audible_call` meets its contract: what the box promises, with the fields of the line.
-use borrow.Author.Rules.{rules}
 use Rattle.replay_calls.specs.Calls.{audible_call}
 use Rattle.replay_calls.proofs.audible_call.Goals as goal
 

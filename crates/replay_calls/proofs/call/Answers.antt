@@ -1,5 +1,4 @@
 -- `replay_calls::call` meets its contract: the test is the definition's.
-use borrow.Author.Rules.{rules}
 use mathlib.Core.Path.{refl, sym, ◌∙◌}
 use Rattle.replay_calls.specs.Calls.{called}
 use Rattle.replay_calls.proofs.call.Goals as goal

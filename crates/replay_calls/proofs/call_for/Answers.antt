@@ -1,7 +1,5 @@
 -- `replay_calls::call_for` meets its contract: each arm is the definition's at its code.
-use borrow.Author.Rules.{rules}
 use mathlib.Core.Path.{refl}
-use borrow.Author.Tests.{ne_eqb}
 use Rattle.replay_calls.specs.Calls.{call_for}
 use Rattle.std.proofs.lemmas.Bool.Decides.{nat_tests}
 use native.Mathlib.Omega.{arith}

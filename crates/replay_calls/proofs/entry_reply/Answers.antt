@@ -1,9 +1,8 @@
 -- `replay_calls::entry_reply` meets its contract: each variant is the definition's.
-use borrow.Author.Rules.{rules}
 use Rattle.replay_calls.proofs.entry_reply.Goals as goal
 
-pub returns-in-Entry : goal.returns-in-Entry
-returns-in-Entry c = rw c.in-Entry.is
+pub returns-in-Ok : goal.returns-in-Ok
+returns-in-Ok c = rw c.in-Ok.is
 
-pub returns-in-Refused : goal.returns-in-Refused
-returns-in-Refused c = rw (c.in-Refused.is, c.number.ensures)
+pub returns-in-Err : goal.returns-in-Err
+returns-in-Err c = rw (c.in-Err.is, c.from.ensures)

@@ -1,5 +1,4 @@
 -- `replay_calls::fade_call` meets its contract: what the box promises, with the fields of the line.
-use borrow.Author.Rules.{rules}
 use mathlib.Core.Path.{sym}
 use Rattle.replay_calls.specs.Calls.{fade_call}
 use Rattle.replay_calls.proofs.Calling.{changed}

@@ -1,5 +1,4 @@
 -- `replay_calls::fade_left_call` meets its contract: what the box promises.
-use borrow.Author.Rules.{rules}
 use Rattle.replay_calls.specs.Calls.{fade_left_call}
 use Rattle.replay_calls.proofs.fade_left_call.Goals as goal
 

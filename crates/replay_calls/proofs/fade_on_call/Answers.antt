@@ -1,6 +1,5 @@
 -- `replay_calls::fade_on_call` meets its contract: by the box, and what that promises, with the fields of the line.
 -- in a box of the present rules
-use borrow.Author.Rules.{rules}
 use Prim.Native.Nat.{ℕ}
 use mathlib.Core.Path.{◌≡◌, sym, ap, ◌∙◌}
 use mathlib.Core.Bool.{Bool, true, cond}

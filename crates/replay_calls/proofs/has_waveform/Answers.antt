@@ -1,5 +1,4 @@
 -- `replay_calls::has_waveform` meets its contract: the tests are the definition's.
-use borrow.Author.Rules.{rules}
 use borrow.Author.Tests.{eq-eqb, ne_eqb}
 use Rattle.replay_calls.proofs.has_waveform.Goals as goal
 

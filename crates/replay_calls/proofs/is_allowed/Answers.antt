@@ -1,6 +1,4 @@
 -- `replay_calls::is_allowed` meets its contract: each arm is the definition's at its code.
-use borrow.Author.Rules.{rules}
-use borrow.Author.Tests.{ne_eqb}
 use Rattle.replay_calls.specs.Calls.{allowed}
 use Rattle.std.proofs.lemmas.Bool.Decides.{nat_tests}
 use native.Mathlib.Omega.{arith}

@@ -1,5 +1,4 @@
 -- `replay_calls::pwm_call` meets its contract: what the box promises of a frame.
-use borrow.Author.Rules.{rules}
 use Rattle.replay_calls.specs.Calls.{duty_call}
 use Rattle.replay_calls.proofs.Calling.{timed}
 use Rattle.replay_calls.proofs.pwm_call.Goals as goal

@@ -1,6 +1,5 @@
 -- `replay_calls::ranks_call` meets its contract: by the box.
 use mathlib.Core.Path.{sym, ◌∙◌}
-use borrow.Author.Rules.{rules}
 use Rattle.replay_calls.specs.Calls.{ranks_call}
 use Rattle.replay_calls.proofs.ranks_call.Goals as goal
 

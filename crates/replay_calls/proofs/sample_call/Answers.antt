@@ -1,5 +1,4 @@
 -- `replay_calls::sample_call` meets its contract: what the box promises of a frame.
-use borrow.Author.Rules.{rules}
 use native.Mathlib.Omega.{arith}
 use mir.Syntax.{w8}
 use mir.Val.{SFits}
@@ -13,4 +12,4 @@ unfolding sample_call
 returns c =
     let s = c.tick_pcm-f in
     let fits : SFits w8 s.result.pcm = record { sfits = omega (arith, s.type_inv) } in
-    sampled s.ensures (rw (c.as_u8.ensures, to_z-of_z w8 _ fits))
+    sampled s.ensures (rw (c.from.ensures, c.cast_unsigned.ensures, to_z-of_z w8 _ fits))

@@ -1,5 +1,4 @@
 -- `replay_calls::search_call` meets its contract: what the box promises, with the fields of the line.
-use borrow.Author.Rules.{rules}
 use Rattle.replay_calls.specs.Calls.{search_call}
 use Rattle.replay_calls.proofs.search_call.Goals as goal
 

@@ -1,5 +1,4 @@
 -- `replay_calls::tone_call` meets its contract: what the box promises, with the fields of the line.
-use borrow.Author.Rules.{rules}
 use mathlib.Core.Path.{ap}
 use Rattle.replay_calls.specs.Calls.{silent_call, tone_call}
 use Rattle.replay_calls.proofs.tone_call.Goals as goal

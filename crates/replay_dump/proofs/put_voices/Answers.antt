@@ -1,4 +1,4 @@
--- `replay_dump::put_voices` meets its contract: the lines that are left to write are those that there were. The measure is the voices left.
+-- `replay_dump::put_voices` meets its contract: the lines that are left to write are those that there were.
 use mathlib.Core.Path.{◌≡◌}
 use mathlib.Core.List.{[]}
 use Prim.Native.Nat.{◌≤◌, ◌<◌}

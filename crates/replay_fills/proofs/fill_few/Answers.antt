@@ -1,6 +1,4 @@
 -- `replay_fills::fill_few` meets its contract: each arm is the definition's at its code.
-use borrow.Author.Rules.{rules}
-use borrow.Author.Tests.{ne_eqb}
 use Rattle.replay_fills.specs.Fills.{fill_for}
 use Rattle.std.proofs.lemmas.Bool.Decides.{nat_tests}
 use native.Mathlib.Omega.{arith}

@@ -1,5 +1,4 @@
 -- `replay_fills::i32s` meets its contract: the part that the call left is printed whole.
-use borrow.Author.Rules.{rules}
 use native.Mathlib.Omega.{arith}
 use mathlib.Core.Path.{sym}
 use mir.Syntax.{w32}
@@ -29,7 +28,7 @@ back f = record { lent = lent f.before.before; kept = f.fill_i32-f.auto.out }
 
 pub returns : goal.returns
 returns c =
-    shaped-shown i32_text 8 (λ x. length-hex_of 8 (of_z w32 x)) (omega arith) to_i32 c.args.shape c.args.bytes.now (back (goal.at.returns c).After-fill_i32-f.before) c.fill_i32-f.ensures c.put_i32s-len.ensures
+    shaped-shown i32_text 8 (λ x. length-hex_of 8 (of_z w32 x)) (omega arith) to_i32 c.args.shape c.args.bytes.now (back (goal.at.returns c).After-fill_i32-f.before) c.fill_i32-f.ensures c.put_cells-len.ensures
 
 pub slice_bounds-fill_i32-end : goal.slice_bounds-fill_i32-end
 slice_bounds-fill_i32-end c = sym (lent_length (lent (goal.at.slice_bounds-fill_i32-end c).After-blank_i32s-cells.before))
@@ -37,5 +36,5 @@ slice_bounds-fill_i32-end c = sym (lent_length (lent (goal.at.slice_bounds-fill_
 pub slice_bounds-cells-end-2 : goal.slice_bounds-cells-end-2
 slice_bounds-cells-end-2 c = back_fits (back (goal.at.slice_bounds-cells-end-2 c).After-fill_i32-f.before)
 
-pub slice_bounds-put_i32s-end : goal.slice_bounds-put_i32s-end
-slice_bounds-put_i32s-end c = sym (back-length (back (goal.at.slice_bounds-put_i32s-end c).After-fill_i32-f.before))
+pub slice_bounds-put_cells-end : goal.slice_bounds-put_cells-end
+slice_bounds-put_cells-end c = sym (back-length (back (goal.at.slice_bounds-put_cells-end c).After-fill_i32-f.before))

@@ -1,5 +1,4 @@
 -- `replay_fills::i8s` meets its contract: the part that the call left is printed whole.
-use borrow.Author.Rules.{rules}
 use native.Mathlib.Omega.{arith}
 use mathlib.Core.Path.{sym}
 use mir.Syntax.{w8}
@@ -29,7 +28,7 @@ back f = record { lent = lent f.before.before; kept = f.fill_i8-f.auto.out }
 
 pub returns : goal.returns
 returns c =
-    shaped-shown i8_text 2 (λ x. length-hex_of 2 (of_z w8 x)) (omega arith) to_i8 c.args.shape c.args.bytes.now (back (goal.at.returns c).After-fill_i8-f.before) c.fill_i8-f.ensures c.put_i8s-len.ensures
+    shaped-shown i8_text 2 (λ x. length-hex_of 2 (of_z w8 x)) (omega arith) to_i8 c.args.shape c.args.bytes.now (back (goal.at.returns c).After-fill_i8-f.before) c.fill_i8-f.ensures c.put_cells-len.ensures
 
 pub slice_bounds-fill_i8-end : goal.slice_bounds-fill_i8-end
 slice_bounds-fill_i8-end c = sym (lent_length (lent (goal.at.slice_bounds-fill_i8-end c).After-blank_i8s-cells.before))
@@ -37,5 +36,5 @@ slice_bounds-fill_i8-end c = sym (lent_length (lent (goal.at.slice_bounds-fill_i
 pub slice_bounds-cells-end-2 : goal.slice_bounds-cells-end-2
 slice_bounds-cells-end-2 c = back_fits (back (goal.at.slice_bounds-cells-end-2 c).After-fill_i8-f.before)
 
-pub slice_bounds-put_i8s-end : goal.slice_bounds-put_i8s-end
-slice_bounds-put_i8s-end c = sym (back-length (back (goal.at.slice_bounds-put_i8s-end c).After-fill_i8-f.before))
+pub slice_bounds-put_cells-end : goal.slice_bounds-put_cells-end
+slice_bounds-put_cells-end c = sym (back-length (back (goal.at.slice_bounds-put_cells-end c).After-fill_i8-f.before))

@@ -1,5 +1,4 @@
 -- `replay_fills::u16s` meets its contract: the part that the call left is printed whole.
-use borrow.Author.Rules.{rules}
 use mathlib.Core.Path.{sym}
 use Rattle.replay_fills.specs.Fills.{blank_u16}
 use Rattle.replay_fills.proofs.Buffers.{Lent, lent_length, Back, back_fits, back-length, level-shown}
@@ -23,7 +22,7 @@ back f = record { lent = lent f.before.before; kept = f.fill_u16-f.auto.out }
 
 pub returns : goal.returns
 returns c =
-    level-shown c.args.level c.args.bytes.now (back (goal.at.returns c).After-fill_u16-f.before) c.fill_u16-f.ensures c.put_u16s-len.ensures
+    level-shown c.args.level c.args.bytes.now (back (goal.at.returns c).After-fill_u16-f.before) c.fill_u16-f.ensures c.put_cells-len.ensures
 
 pub slice_bounds-fill_u16-end : goal.slice_bounds-fill_u16-end
 slice_bounds-fill_u16-end c = sym (lent_length (lent (goal.at.slice_bounds-fill_u16-end c).After-blank_u16s-cells.before))
@@ -31,5 +30,5 @@ slice_bounds-fill_u16-end c = sym (lent_length (lent (goal.at.slice_bounds-fill_
 pub slice_bounds-cells-end-2 : goal.slice_bounds-cells-end-2
 slice_bounds-cells-end-2 c = back_fits (back (goal.at.slice_bounds-cells-end-2 c).After-fill_u16-f.before)
 
-pub slice_bounds-put_u16s-end : goal.slice_bounds-put_u16s-end
-slice_bounds-put_u16s-end c = sym (back-length (back (goal.at.slice_bounds-put_u16s-end c).After-fill_u16-f.before))
+pub slice_bounds-put_cells-end : goal.slice_bounds-put_cells-end
+slice_bounds-put_cells-end c = sym (back-length (back (goal.at.slice_bounds-put_cells-end c).After-fill_u16-f.before))

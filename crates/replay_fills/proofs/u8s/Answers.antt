@@ -1,5 +1,4 @@
 -- `replay_fills::u8s` meets its contract: the part that the call left is printed whole.
-use borrow.Author.Rules.{rules}
 use native.Mathlib.Omega.{arith}
 use mathlib.Core.Path.{sym}
 use Rattle.output.specs.Levels.{raised}
@@ -27,7 +26,7 @@ back f = record { lent = lent f.before.before; kept = f.fill_u8-f.auto.out }
 
 pub returns : goal.returns
 returns c =
-    shaped-shown byte_text 2 (λ x. length-hex_of 2 x) (omega arith) raised c.args.shape c.args.bytes.now (back (goal.at.returns c).After-fill_u8-f.before) c.fill_u8-f.ensures c.put_u8s-len.ensures
+    shaped-shown byte_text 2 (λ x. length-hex_of 2 x) (omega arith) raised c.args.shape c.args.bytes.now (back (goal.at.returns c).After-fill_u8-f.before) c.fill_u8-f.ensures c.put_cells-len.ensures
 
 pub slice_bounds-fill_u8-end : goal.slice_bounds-fill_u8-end
 slice_bounds-fill_u8-end c = sym (lent_length (lent (goal.at.slice_bounds-fill_u8-end c).After-blank_u8s-cells.before))
@@ -35,5 +34,5 @@ slice_bounds-fill_u8-end c = sym (lent_length (lent (goal.at.slice_bounds-fill_u
 pub slice_bounds-cells-end-2 : goal.slice_bounds-cells-end-2
 slice_bounds-cells-end-2 c = back_fits (back (goal.at.slice_bounds-cells-end-2 c).After-fill_u8-f.before)
 
-pub slice_bounds-put_u8s-end : goal.slice_bounds-put_u8s-end
-slice_bounds-put_u8s-end c = sym (back-length (back (goal.at.slice_bounds-put_u8s-end c).After-fill_u8-f.before))
+pub slice_bounds-put_cells-end : goal.slice_bounds-put_cells-end
+slice_bounds-put_cells-end c = sym (back-length (back (goal.at.slice_bounds-put_cells-end c).After-fill_u8-f.before))

@@ -19,7 +19,7 @@ full : (c : At-After-bytes_from) → length c.bytes_from.new.cells ≡ 4096
 full c = ap length c.bytes_from.ensures ∙ simp (length-sets, length-replicate)
 
 fits : (c : At-After-bytes_from) → c.args.n ≤ length c.bytes_from.new.cells
-fits c = rw (full c) (omega (arith, c.requires.1))
+fits c = rw (full c) (omega (arith, c.requires))
 
 pub slice_bounds-whole_cycles-end : goal.slice_bounds-whole_cycles-end
 slice_bounds-whole_cycles-end c =
@@ -29,8 +29,8 @@ pub returns : goal.returns
 returns c =
     let l = c.args.l.now in
     c.whole_cycles.ensures
-    ∙ ap (whole_cycles c.args.r.sample_rate_hz)
-    (rw c.bytes_from.ensures (front_bytes l _ 5 c.args.n (omega (arith, c.requires.1)) (rw length-replicate (omega (arith, c.requires.1)))))
+    ∙ ap (whole_cycles c.args.r)
+    (rw c.bytes_from.ensures (front_bytes l _ 5 c.args.n (omega (arith, c.requires)) (rw length-replicate (omega (arith, c.requires)))))
 
 pub slice_bounds-cells-end : goal.slice_bounds-cells-end
 slice_bounds-cells-end c = fits c.before

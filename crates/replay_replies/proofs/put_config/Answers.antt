@@ -1,5 +1,4 @@
 -- `replay_replies::put_config` meets its contract: five texts, one after the other.
-use borrow.Author.Rules.{rules}
 use native.Mathlib.Omega.{arith}
 use Rattle.hex_digits.proofs.Texts.{shown, then, whole}
 use Rattle.replay_replies.proofs.put_config.Goals as goal

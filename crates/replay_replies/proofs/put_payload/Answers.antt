@@ -1,5 +1,4 @@
 -- `replay_replies::put_payload` meets its contract: the number and the part, whose length has two bytes.
-use borrow.Author.Rules.{rules}
 use mathlib.Core.Path.{ap}
 use native.Mathlib.Omega.{arith}
 use lib.ListN.{length}
@@ -14,5 +13,5 @@ pub returns : goal.returns
 returns c =
     let a = c.args in
     let short = part-short (mixer_of a.e).bank a.bytes.now c.long_at-offset.result c.wide_at-len.result in
-    let all = numbered-all byte_text 2 c.payload_number-number.result 2 (λ x. length-hex_of 2 x) c.payload-part.result.now (omega (arith, ap length c.payload-part.ensures, short, c.wide_at-len.type_inv)) c.put_u8s.ensures in
+    let all = numbered-all byte_text 2 c.payload_number-number.result 2 (λ x. length-hex_of 2 x) c.payload-part.result.now (omega (arith, ap length c.payload-part.ensures, short, c.wide_at-len.type_inv)) c.put_cells.ensures in
     payload-laid a.e.present (mixer_of a.e).bank a.l.now a.bytes.now c.long_at-offset.ensures c.wide_at-len.ensures c.payload_number-read.ensures c.payload_number-number.ensures c.payload-part.ensures all

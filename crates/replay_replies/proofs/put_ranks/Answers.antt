@@ -4,12 +4,11 @@ use native.Mathlib.Omega.{arith}
 use mathlib.Core.Path.{◌≡◌, refl, sym, ap, ◌∙◌}
 use mathlib.Core.Bool.{Bool, true, false, cond}
 use mathlib.Core.List.{map}
-use borrow.Author.Rules.{rules}
 use lib.ListN.{length, take, replicate, length-map}
 use lib.Seq.{length-take-le}
 use Rattle.hex_digits.proofs.Texts.{length-hex_of}
 use Rattle.marks.specs.declared.Mark.{Mark}
-use Rattle.replay_box.specs.Boxes.{ValidBox, mixer_of, ranks_of}
+use Rattle.replay_box.specs.Boxes.{ValidBox, ranks_of}
 use Rattle.replay_box.specs.declared.OpenBox.{OpenBox}
 use Rattle.replay_box.proofs.Laws.{valid-mixer}
 use Rattle.replay_cells.specs.Cells.{byte_text}
@@ -36,11 +35,11 @@ full c = ap length c.ranks-ranks.ensures ∙ sixteen c.args.e c.requires
 
 pub returns : goal.returns
 returns c =
-    let all = numbered-all byte_text 0 0 2 (λ x. length-hex_of 2 x) (take c.voice_count-n.result c.ranks-ranks.result) (omega (arith, length-take-le c.voice_count-n.result c.ranks-ranks.result (there (goal.at.returns c).After-voice_count-n), there (goal.at.returns c).After-voice_count-n, full (goal.at.returns c).After-voice_count-n)) c.put_u8s.ensures in
+    let all = numbered-all byte_text 0 0 2 (λ x. length-hex_of 2 x) (take c.voice_count-n.result c.ranks-ranks.result) (omega (arith, length-take-le c.voice_count-n.result c.ranks-ranks.result (there (goal.at.returns c).After-voice_count-n), there (goal.at.returns c).After-voice_count-n, full (goal.at.returns c).After-voice_count-n)) c.put_cells.ensures in
     rw (sym c.voice_count-n.ensures, sym c.ranks-ranks.ensures) all
 
 pub slice_bounds-ranks-end : goal.slice_bounds-ranks-end
 slice_bounds-ranks-end c = there (goal.at.slice_bounds-ranks-end c).After-voice_count-n
 
-pub slice_bounds-put_u8s-end : goal.slice_bounds-put_u8s-end
-slice_bounds-put_u8s-end c = sym (length-take-le _ _ (there (goal.at.slice_bounds-put_u8s-end c).After-voice_count-n))
+pub slice_bounds-put_cells-end : goal.slice_bounds-put_cells-end
+slice_bounds-put_cells-end c = sym (length-take-le _ _ (there (goal.at.slice_bounds-put_cells-end c).After-voice_count-n))

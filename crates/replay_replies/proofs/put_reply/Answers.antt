@@ -1,12 +1,11 @@
 -- `replay_replies::put_reply` meets its contract: each variant is the definition's.
-use borrow.Author.Rules.{rules}
 use mathlib.Core.Path.{refl, sym}
 use native.Mathlib.Omega.{arith}
 use Rattle.replay_box.proofs.Laws.{valid-mixer}
 use Rattle.replay_replies.proofs.put_reply.Goals as goal
 
 pub put_dump-requires : goal.put_dump-requires
-put_dump-requires c = rw c.state-m.ensures (valid-mixer c.requires)
+put_dump-requires c = rw c.state.ensures (valid-mixer c.requires)
 
 pub returns-in-Bad : goal.returns-in-Bad
 returns-in-Bad c = rw c.in-Bad.is c.put_line.ensures.0
@@ -36,14 +35,14 @@ pub returns-in-Payload : goal.returns-in-Payload
 returns-in-Payload c = rw c.in-Payload.is c.put_payload.ensures
 
 pub returns-in-Dump : goal.returns-in-Dump
-returns-in-Dump c = rw (c.in-Dump.is, sym c.state-m.ensures) c.put_dump.ensures
+returns-in-Dump c = rw (c.in-Dump.is, sym c.state.ensures) c.put_dump.ensures
 
 pub returns-in-Policy : goal.returns-in-Policy
 returns-in-Policy c =
-    rw (c.in-Policy.is, sym c.stealing_policy-policy.ensures, sym c.policy_number.ensures) c.put_line-in-Policy.ensures.0
+    rw (c.in-Policy.is, sym c.stealing_policy.ensures, sym c.policy_number.ensures) c.put_line-in-Policy.ensures.0
 
 pub returns-in-Configuration : goal.returns-in-Configuration
-returns-in-Configuration c = rw (c.in-Configuration.is, sym c.config-config.ensures) c.put_config.ensures
+returns-in-Configuration c = rw (c.in-Configuration.is, sym c.config.ensures) c.put_config.ensures
 
 pub returns-in-Voice : goal.returns-in-Voice
 returns-in-Voice c = rw c.in-Voice.is c.put_voice_at.ensures

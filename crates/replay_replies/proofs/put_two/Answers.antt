@@ -1,5 +1,4 @@
 -- `replay_replies::put_two` meets its contract: three texts, one after the other.
-use borrow.Author.Rules.{rules}
 use native.Mathlib.Omega.{arith}
 use Rattle.hex_digits.proofs.Texts.{then, whole}
 use Rattle.replay_replies.proofs.put_two.Goals as goal

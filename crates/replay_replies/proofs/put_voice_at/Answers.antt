@@ -1,5 +1,4 @@
 -- `replay_replies::put_voice_at` meets its contract: the voice's fields and the line's end, or the line's end alone.
-use borrow.Author.Rules.{rules}
 use mathlib.Core.Path.{sym, ◌∙◌}
 use native.Mathlib.Omega.{arith}
 use Rattle.hex_digits.proofs.Texts.{then, whole}
@@ -9,11 +8,11 @@ use Rattle.replay_replies.proofs.Payload.{read-valid}
 use Rattle.replay_replies.proofs.put_voice_at.Goals as goal
 
 pub put_voice-end-requires : goal.put_voice-end-requires
-put_voice-end-requires c = read-valid (mixer_of c.args.e) c.args.i (valid-mixer c.requires) (sym c.voice-read.ensures ∙ c.in-Voice.is)
+put_voice-end-requires c = read-valid (mixer_of c.args.e) c.args.i (valid-mixer c.requires) (sym c.voice-read.ensures ∙ c.in-Some.is)
 
-pub returns-in-Voice : goal.returns-in-Voice
-returns-in-Voice c =
-    rw (sym c.voice-read.ensures, c.in-Voice.is)
+pub returns-in-Some : goal.returns-in-Some
+returns-in-Some c =
+    rw (sym c.voice-read.ensures, c.in-Some.is)
     (whole (then c.put_voice-end.ensures.0 c.end_line.ensures.0) (omega (arith, c.put_voice-end.ensures.1, c.end_line.ensures.1)))
 
 pub returns-in-None : goal.returns-in-None

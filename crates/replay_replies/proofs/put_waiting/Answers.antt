@@ -2,9 +2,8 @@
 -- the first cells are the labels
 use Prim.Native.Nat.{ℕ, ◌≤◌, ◌-◌}
 use native.Mathlib.Omega.{arith}
-use mathlib.Core.Path.{◌≡◌, refl, sym, ap, ◌∙◌}
+use mathlib.Core.Path.{◌≡◌, sym, ap, ◌∙◌}
 use mathlib.Core.List.{List, map}
-use borrow.Author.Rules.{rules}
 use lib.ListN.{length, take, length-map}
 use lib.Seq.{length-take-le, take-append_seam}
 use Rattle.hex_digits.proofs.Texts.{length-hex_of}
@@ -44,11 +43,11 @@ shown e f w = rw (e, f) at w
 
 pub returns : goal.returns
 returns c =
-    let all = numbered-all wide_text 2 c.waiting_count-n.result 4 (λ x. length-hex_of 4 x) (take c.waiting_count-n.result c.waiting_labels-labels.result) (omega (arith, length-take-le c.waiting_count-n.result c.waiting_labels-labels.result (there (goal.at.returns c).After-waiting_count-n), few (goal.at.returns c).After-waiting_count-n)) c.put_u16s.ensures in
+    let all = numbered-all wide_text 2 c.waiting_count-n.result 4 (λ x. length-hex_of 4 x) (take c.waiting_count-n.result c.waiting_labels-labels.result) (omega (arith, length-take-le c.waiting_count-n.result c.waiting_labels-labels.result (there (goal.at.returns c).After-waiting_count-n), few (goal.at.returns c).After-waiting_count-n)) c.put_cells.ensures in
     shown (labels (goal.at.returns c).After-waiting_count-n) (many (goal.at.returns c).After-waiting_count-n) all
 
 pub slice_bounds-labels-end : goal.slice_bounds-labels-end
 slice_bounds-labels-end c = there (goal.at.slice_bounds-labels-end c).After-waiting_count-n
 
-pub slice_bounds-put_u16s-end : goal.slice_bounds-put_u16s-end
-slice_bounds-put_u16s-end c = sym (length-take-le _ _ (there (goal.at.slice_bounds-put_u16s-end c).After-waiting_count-n))
+pub slice_bounds-put_cells-end : goal.slice_bounds-put_cells-end
+slice_bounds-put_cells-end c = sym (length-take-le _ _ (there (goal.at.slice_bounds-put_cells-end c).After-waiting_count-n))

@@ -1,5 +1,4 @@
 -- `replay_waits::call` meets its contract: the test is the definition's.
-use borrow.Author.Rules.{rules}
 use mathlib.Core.Path.{sym, ◌∙◌}
 use Rattle.replay_waits.specs.Waits.{called_any}
 use Rattle.replay_waits.proofs.call.Goals as goal

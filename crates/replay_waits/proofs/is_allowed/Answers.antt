@@ -1,5 +1,4 @@
 -- `replay_waits::is_allowed` meets its contract: each arm is the definition's at its code.
-use borrow.Author.Rules.{rules}
 use borrow.Author.Tests.{eq-eqb, ne_eqb}
 use Rattle.replay_waits.specs.Waits.{allowed_wait}
 use Rattle.std.proofs.lemmas.Bool.Decides.{nat_tests}

@@ -1,5 +1,4 @@
 -- `replay_waits::kept_call` meets its contract: what the box tells.
-use borrow.Author.Rules.{rules}
 use Rattle.replay_waits.specs.Waits.{kept_call}
 use Rattle.replay_waits.proofs.kept_call.Goals as goal
 

@@ -1,9 +1,8 @@
 -- `replay_waits::kept_reply` meets its contract: each variant is the definition's.
-use borrow.Author.Rules.{rules}
 use Rattle.replay_waits.proofs.kept_reply.Goals as goal
 
-pub returns-in-Nothing : goal.returns-in-Nothing
-returns-in-Nothing c = rw c.in-Nothing.is
+pub returns-in-None : goal.returns-in-None
+returns-in-None c = rw c.in-None.is
 
-pub returns-in-Refusal : goal.returns-in-Refusal
-returns-in-Refusal c = rw (c.in-Refusal.is, c.number.ensures)
+pub returns-in-Some : goal.returns-in-Some
+returns-in-Some c = rw (c.in-Some.is, c.from.ensures)

@@ -1,5 +1,4 @@
 -- `replay_waits::next_call` meets its contract: what the box tells.
-use borrow.Author.Rules.{rules}
 use Rattle.replay_waits.specs.Waits.{next_call}
 use Rattle.replay_waits.proofs.next_call.Goals as goal
 

@@ -1,9 +1,8 @@
 -- `replay_waits::next_reply` meets its contract: each variant is the definition's.
-use borrow.Author.Rules.{rules}
 use Rattle.replay_waits.proofs.next_reply.Goals as goal
 
-pub returns-in-Nobody : goal.returns-in-Nobody
-returns-in-Nobody c = rw c.in-Nobody.is
+pub returns-in-None : goal.returns-in-None
+returns-in-None c = rw c.in-None.is
 
-pub returns-in-Next : goal.returns-in-Next
-returns-in-Next c = rw c.in-Next.is
+pub returns-in-Some : goal.returns-in-Some
+returns-in-Some c = rw c.in-Some.is

@@ -5,13 +5,12 @@ use native.Mathlib.Omega.{arith}
 use lib.ListN.{length, length-map}
 use lib.Seq.{length-sets}
 use Rattle.allocate.proofs.Keyed.{ranks-length}
-use Rattle.error.specs.Told.{value}
+use Rattle.error.specs.Told.{told, value}
 use Rattle.marks.specs.Marks.{beside}
 use Rattle.marks.specs.declared.Present.{Present}
 use Rattle.marks.proofs.Laws.{valid-inside}
 use Rattle.voice.specs.declared.Voice.{Voice}
 use Rattle.mixer.specs.Mixers as M
-use Rattle.play.specs.Plays.{told_placed}
 use Rattle.play.proofs.Placing.{placed-stored}
 use Rattle.requests.specs.Presents.{player_by}
 use Rattle.requests.proofs.Demand3.{demand-3}
@@ -49,7 +48,7 @@ sixteen : (c : At-At-loop-i) → length c.loop-i.keys ≡ 16
 sixteen c = rw (c.loop-i.invariant.playing.keyed, length-map) (ranks-length _ _ ∙ (inside c).full)
 
 -- the voice that is given is one of the sixteen
-given_below : (s : At-After-place) (k : ℕ) (v : Voice) → told_placed s.place.result ≡ value (k, v) → k < 16
+given_below : (s : At-After-place) (k : ℕ) (v : Voice) → told s.place.result ≡ value (k, v) → k < 16
 given_below s k v e =
     let l = s.loop-i.invariant.playing in
     let g = placed-stored s.args.present (state s.before.before.before.before) _ _ l.valid s.loop-i.keys l.keyed k v (sym s.place.ensures.same ∙ e) in
@@ -65,14 +64,14 @@ loop-i-preserved c =
     let q = c.request_at-request.ensures in
     let p = c.place.ensures in
     elim c.match-place.branch [
-      | goal.in-Refused w ↦
-          rw (w.outcomes-is, w.mixer-is, w.rules-is, w.keys-is, w.sounding-is, w.tell.ensures, w.number.ensures)
-          (going-kept _ _ _ _ _ _ l.i l.mixer l.rules l.keys l.sounding l.outcomes l.invariant _ h q w.in-Refused.e
-          (sym p.same ∙ ap told_placed w.in-Refused.is))
-      | goal.in-Voice w ↦
-          rw (w.outcomes-is, w.mixer-is, w.rules-is, w.keys-is, w.sounding-is, w.rekey.ensures, w.tell-in-Voice.ensures)
+      | goal.in-Err w ↦
+          rw (w.outcomes-is, w.mixer-is, w.rules-is, w.keys-is, w.sounding-is, w.tell.ensures, w.from.ensures)
+          (going-kept _ _ _ _ _ _ l.i l.mixer l.rules l.keys l.sounding l.outcomes l.invariant _ h q w.in-Err.e
+          (sym p.same ∙ ap told w.in-Err.is))
+      | goal.in-Ok w ↦
+          rw (w.outcomes-is, w.mixer-is, w.rules-is, w.keys-is, w.sounding-is, w.rekey.ensures, w.tell-in-Ok.ensures)
           (going-stored _ _ _ _ _ _ l.i l.mixer l.rules l.keys l.sounding l.outcomes l.invariant _ h q _ _ w.sounding_after-sounding.result
-          (sym p.same ∙ ap told_placed w.in-Voice.is) (rw w.in-Voice.is at p.valid) w.sounding_after-sounding.ensures)
+          (sym p.same ∙ ap told w.in-Ok.is) (rw w.in-Ok.is at p.valid) w.sounding_after-sounding.ensures)
     ]
 
 pub shape_of-outcomes : goal.shape_of-outcomes
@@ -103,31 +102,31 @@ pub place-requires : goal.place-requires
 place-requires c = (inside (goal.at.place-requires c).At-loop-i.before).bank
 
 pub offset_bounds-keys-k : goal.offset_bounds-keys-k
-offset_bounds-keys-k c = omega (arith, given_below (goal.at.offset_bounds-keys-k c).After-place.before _ _ (ap told_placed c.in-Voice.is))
+offset_bounds-keys-k c = omega (arith, given_below (goal.at.offset_bounds-keys-k c).After-place.before _ _ (ap told c.in-Ok.is))
 
 pub bounds-keys-k : goal.bounds-keys-k
-bounds-keys-k c = given_below (goal.at.bounds-keys-k c).After-place.before _ _ (ap told_placed c.in-Voice.is)
+bounds-keys-k c = given_below (goal.at.bounds-keys-k c).After-place.before _ _ (ap told c.in-Ok.is)
 
 pub sounding_after-sounding-requires : goal.sounding_after-sounding-requires
 sounding_after-sounding-requires c = λ t. omega (arith, going-few _ _ _ _ _ _ _ _ _ _ _ _ c.loop-i.invariant t)
 
 pub rekey-requires : goal.rekey-requires
-rekey-requires c = (given_below (goal.at.rekey-requires c).After-place.before _ _ (ap told_placed c.in-Voice.is), sixteen (goal.at.rekey-requires c).At-loop-i.before)
+rekey-requires c = (given_below (goal.at.rekey-requires c).After-place.before _ _ (ap told c.in-Ok.is), sixteen (goal.at.rekey-requires c).At-loop-i.before)
 
 pub offset_bounds-rules-k : goal.offset_bounds-rules-k
-offset_bounds-rules-k c = omega (arith, given_below (goal.at.offset_bounds-rules-k c).After-place.before _ _ (ap told_placed c.in-Voice.is))
+offset_bounds-rules-k c = omega (arith, given_below (goal.at.offset_bounds-rules-k c).After-place.before _ _ (ap told c.in-Ok.is))
 
 pub bounds-rules-k : goal.bounds-rules-k
-bounds-rules-k c = given_below (goal.at.bounds-rules-k c).After-place.before _ _ (ap told_placed c.in-Voice.is)
+bounds-rules-k c = given_below (goal.at.bounds-rules-k c).After-place.before _ _ (ap told c.in-Ok.is)
 
 pub offset_bounds-mixer-k : goal.offset_bounds-mixer-k
-offset_bounds-mixer-k c = omega (arith, given_below (goal.at.offset_bounds-mixer-k c).After-place.before _ _ (ap told_placed c.in-Voice.is))
+offset_bounds-mixer-k c = omega (arith, given_below (goal.at.offset_bounds-mixer-k c).After-place.before _ _ (ap told c.in-Ok.is))
 
 pub bounds-mixer-k : goal.bounds-mixer-k
-bounds-mixer-k c = given_below (goal.at.bounds-mixer-k c).After-place.before _ _ (ap told_placed c.in-Voice.is)
+bounds-mixer-k c = given_below (goal.at.bounds-mixer-k c).After-place.before _ _ (ap told c.in-Ok.is)
 
 pub overflow_cast-k : goal.overflow_cast-k
-overflow_cast-k c = record { fits = omega (arith, given_below (goal.at.overflow_cast-k c).After-place.before _ _ (ap told_placed c.in-Voice.is)) }
+overflow_cast-k c = record { fits = omega (arith, given_below (goal.at.overflow_cast-k c).After-place.before _ _ (ap told c.in-Ok.is)) }
 
 pub overflow_step-i : goal.overflow_step-i
 overflow_step-i c = omega (arith, more (goal.at.overflow_step-i c).In-loop-i.before)

@@ -1,5 +1,4 @@
 -- The silent voice with what is its own, triggered. Assumes nothing.
-use borrow.Author.Rules.{rules}
 use Rattle.start.specs.Starts.{started_voice}
 use Rattle.start.proofs.Laws.{valid-untriggered}
 use Rattle.start.proofs.started_voice.Goals as goal

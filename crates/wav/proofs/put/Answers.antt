@@ -1,29 +1,17 @@
--- `wav::put` meets its contract: what is left to write is what there was. The measure is the bytes left.
-use mathlib.Core.Path.{refl, sym, ◌∙◌}
-use Prim.Native.Nat.{◌+◌}
+-- `wav::put` meets its contract: the bytes are laid over what stood there.
 use native.Mathlib.Omega.{arith}
-use lib.ListN.{length-set}
-use Rattle.wav.proofs.Bytes.{put-start, put-turn, put-end}
+use Prim.Native.Nat.{ℕ, ◌+◌, ◌≤◌}
+use mathlib.Core.Path.{◌≡◌}
+use mathlib.Core.List.{List}
+use lib.ListN.{length}
+use lib.Seq.{sets, sets-eq}
+use borrow.Rule.Slice.PartMut.{put_mid}
+use Rattle.std.proofs.Common.{append_assoc}
+use Rattle.std.proofs.lemmas.List.{drop-drop}
 use Rattle.wav.proofs.put.Goals as goal
 
-pub loop-i-init : goal.loop-i-init
-loop-i-init c = let a = c.args in (omega arith, refl, put-start a.out.now a.at a.k a.n)
-
-pub overflow_add-out : goal.overflow_add-out
-overflow_add-out c = omega (arith, c.requires, c.loop-i.invariant.1)
-
-pub bounds-out-at : goal.bounds-out-at
-bounds-out-at c = omega (arith, c.requires, c.loop-i.invariant.1)
-
-pub loop-i-preserved : goal.loop-i-preserved
-loop-i-preserved c =
-    let a = c.args in
-    (omega arith, simp length-set c.loop-i.invariant.1, put-turn c.loop-i.out a.at a.k c.loop-i.rest c.loop-i.i c.loop-i-test.true ∙ c.loop-i.invariant.2)
-
-pub shape_of-out : goal.shape_of-out
-shape_of-out c = c.loop-i.invariant.1
+laid : (out bytes part : List ℕ) (at k : ℕ) → at + length bytes ≤ length out → part ≡ bytes → k ≡ length bytes → put_mid at k out part ≡ sets out at bytes
+laid out bytes part at k h e n = rw (e, n, sets-eq bytes out at h, append_assoc, drop-drop)
 
 pub returns : goal.returns
-returns c =
-    let a = c.args in
-    sym (put-end c.loop-i.out (a.at + c.loop-i.i) a.k c.loop-i.rest c.loop-i.i c.loop-i-test.false) ∙ c.loop-i.invariant.2
+returns c = laid c.args.out.now c.args.bytes.now _ c.args.at _ c.requires c.copy_from_slice.ensures.after (omega arith)

@@ -1,7 +1,7 @@
--- `wav::put_cells` meets its contract: what is left to write is what there was. The measure is the cells left.
+-- `wav::put_cells` meets its contract: what is left to write is what there was.
 use mathlib.Core.Path.{◌≡◌}
-use Prim.Native.Nat.{◌-◌, ◌*◌, ◌≤◌}
-use lib.ListN.{length, drop}
+use Prim.Native.Nat.{◌*◌}
+use lib.ListN.{drop}
 use lib.Seq.{sets}
 use Rattle.wav.specs.Wav.{cell_bytes, fitting}
 use Rattle.wav.proofs.put_cells.Given as goal
@@ -9,7 +9,4 @@ use Rattle.wav.proofs.put_cells.Given as goal
 abbrev pub invariant-loop-i : goal.invariant-loop-i
 invariant-loop-i l =
     let f = fitting l.cells l.initial.out in
-    (l.i ≤ l.n) × (length l.out ≡ length l.initial.out) × (sets l.out (2 * l.i) (cell_bytes (drop l.i f)) ≡ sets l.initial.out 0 (cell_bytes f))
-
-abbrev pub decreases-loop-i : goal.decreases-loop-i
-decreases-loop-i l = l.n - l.i
+    sets l.out (2 * l.i) (cell_bytes (drop l.i f)) ≡ sets l.initial.out 0 (cell_bytes f)

@@ -1,4 +1,4 @@
--- `bank_writer::cells::put_entries` meets its contract: what is left to write is what there was. The measure is the entries left.
+-- `bank_writer::cells::put_entries` meets its contract: what is left to write is what there was.
 use mathlib.Core.Path.{◌≡◌, refl, sym, ap, ◌∙◌}
 use Prim.Native.Nat.{◌+◌, ◌*◌}
 use native.Mathlib.Omega.{arith}
@@ -17,45 +17,14 @@ At-After-entry_bytes-bytes = lts.After-entry_bytes tie.the-claims reads.Pre read
 size : (c : At-After-entry_bytes-bytes) → length c.entry_bytes-bytes.result ≡ 16
 size c = ap length c.entry_bytes-bytes.ensures ∙ length-entry _ _
 
-pub overflow_mul-offset : goal.overflow_mul-offset
-overflow_mul-offset c = omega (arith, c.requires.0)
-
-pub overflow_add-offset : goal.overflow_add-offset
-overflow_add-offset c = omega (arith, c.requires.0)
-
 pub loop-k-init : goal.loop-k-init
 loop-k-init c = (omega arith, refl, omega (arith, c.requires.0), refl)
-
-pub bounds-places-k : goal.bounds-places-k
-bounds-places-k c = omega (arith, c.requires.0)
-
-pub overflow_cast-e : goal.overflow_cast-e
-overflow_cast-e c = omega (arith, c.requires.2 c.loop-k.k (omega arith))
-
-pub offset_bounds-entries-places : goal.offset_bounds-entries-places
-offset_bounds-entries-places c = omega (arith, c.requires.2 c.loop-k.k (omega arith))
 
 pub bounds-entries-places : goal.bounds-entries-places
 bounds-entries-places c = c.requires.2 c.loop-k.k (omega arith)
 
-pub overflow_mul-k : goal.overflow_mul-k
-overflow_mul-k c = omega (arith, c.requires.0)
-
-pub overflow_add-k : goal.overflow_add-k
-overflow_add-k c = omega (arith, c.requires.0)
-
 pub slice_bounds-put-end : goal.slice_bounds-put-end
 slice_bounds-put-end c = let e = size (goal.at.slice_bounds-put-end c).After-entry_bytes-bytes.before in search rules
-
-pub put-requires : goal.put-requires
-put-requires c =
-    omega (arith, size (goal.at.put-requires c).After-entry_bytes-bytes.before, c.requires.3, c.loop-k.invariant.1)
-
-pub overflow_cast-offset : goal.overflow_cast-offset
-overflow_cast-offset c = omega (arith, c.struct_known-1.given.1.1.1.1.1.1.0)
-
-pub overflow_add-offset-in-loop-k : goal.overflow_add-offset-in-loop-k
-overflow_add-offset-in-loop-k c = omega (arith, c.struct_known-1.given.1.1.1.1.1.1.0, c.loop-k.invariant.2, c.requires.0)
 
 pub loop-k-preserved : goal.loop-k-preserved
 loop-k-preserved c =

@@ -1,6 +1,6 @@
--- `bank_writer::cells::put_entries` meets its contract: what is left to write is what there was. The measure is the entries left.
+-- `bank_writer::cells::put_entries` meets its contract: what is left to write is what there was.
 use mathlib.Core.Path.{◌≡◌}
-use Prim.Native.Nat.{◌+◌, ◌-◌, ◌*◌, ◌≤◌}
+use Prim.Native.Nat.{◌+◌, ◌*◌, ◌≤◌}
 use lib.ListN.{length, take, drop}
 use lib.Seq.{sets}
 use Rattle.bank.specs.Entries.{place_of}
@@ -12,6 +12,3 @@ abbrev pub invariant-loop-k : goal.invariant-loop-k
 invariant-loop-k l =
     (l.k ≤ l.count) × (length l.out ≡ length l.initial.out) × (l.offset ≤ 1034 + 4294967295 * l.k)
     × (sets l.out (10 + 16 * l.k) (table l.offset (picked_entries l.entries (drop l.k (take l.count l.places)))) ≡ sets l.initial.out 10 (table (place_of l.count) (picked_entries l.entries (take l.count l.places))))
-
-abbrev pub decreases-loop-k : goal.decreases-loop-k
-decreases-loop-k l = l.count - l.k

@@ -1,4 +1,4 @@
--- `bank_writer::cells::put_payloads` meets its contract: what is left to write is what there was. The measure is the entries left.
+-- `bank_writer::cells::put_payloads` meets its contract: what is left to write is what there was.
 use mathlib.Core.Path.{◌≡◌, refl, sym, ◌∙◌}
 use Prim.Native.Nat.{◌+◌, ◌<◌}
 use native.Mathlib.Omega.{arith}
@@ -7,35 +7,8 @@ use lib.ListN.{get_or}
 use Rattle.bank_writer.proofs.Turns.{payload-turn, payload-room, payload-end, length_cut}
 use Rattle.bank_writer.proofs.cells.put_payloads.Goals as goal
 
-pub overflow_mul-at : goal.overflow_mul-at
-overflow_mul-at c = omega (arith, c.requires.count_bound.0)
-
-pub overflow_add-at : goal.overflow_add-at
-overflow_add-at c = omega (arith, c.requires.count_bound.0)
-
 pub loop-k-init : goal.loop-k-init
 loop-k-init c = (omega arith, refl, c.requires.places_in_bounds, refl)
-
-pub bounds-places-k : goal.bounds-places-k
-bounds-places-k c = omega (arith, c.requires.count_bound.0)
-
-pub overflow_cast-i : goal.overflow_cast-i
-overflow_cast-i c = omega (arith, (c.requires.count_bound.2 c.loop-k.k (omega arith)).0)
-
-pub offset_bounds-starts-i : goal.offset_bounds-starts-i
-offset_bounds-starts-i c = omega (arith, (c.requires.count_bound.2 c.loop-k.k (omega arith)).0)
-
-pub bounds-starts-i : goal.bounds-starts-i
-bounds-starts-i c = omega (arith, (c.requires.count_bound.2 c.loop-k.k (omega arith)).0)
-
-pub overflow_add-end : goal.overflow_add-end
-overflow_add-end c = omega (arith, (c.requires.count_bound.2 c.loop-k.k (omega arith)).0)
-
-pub offset_bounds-starts-i-in-loop-k : goal.offset_bounds-starts-i-in-loop-k
-offset_bounds-starts-i-in-loop-k c = omega (arith, (c.requires.count_bound.2 c.loop-k.k (omega arith)).0)
-
-pub bounds-starts-i-in-loop-k : goal.bounds-starts-i-in-loop-k
-bounds-starts-i-in-loop-k c = omega (arith, (c.requires.count_bound.2 c.loop-k.k (omega arith)).0)
 
 pub slice_bounds-put-count : goal.slice_bounds-put-count
 slice_bounds-put-count c = (c.requires.count_bound.2 c.loop-k.k (omega arith)).1.ordered
@@ -52,10 +25,6 @@ put-requires c =
 
 pub overflow_sub-at : goal.overflow_sub-at
 overflow_sub-at c = (c.requires.count_bound.2 c.loop-k.k (omega arith)).1.ordered
-
-pub overflow_add-at-in-loop-k : goal.overflow_add-at-in-loop-k
-overflow_add-at-in-loop-k c =
-    omega (arith, (c.requires.count_bound.2 c.loop-k.k (omega arith)).1.ordered, (c.requires.count_bound.2 c.loop-k.k (omega arith)).1.within)
 
 pub loop-k-preserved : goal.loop-k-preserved
 loop-k-preserved c =

@@ -1,6 +1,6 @@
--- `bank_writer::cells::put_payloads` meets its contract: what is left to write is what there was. The measure is the entries left.
+-- `bank_writer::cells::put_payloads` meets its contract: what is left to write is what there was.
 use mathlib.Core.Path.{◌≡◌}
-use Prim.Native.Nat.{◌+◌, ◌-◌, ◌≤◌}
+use Prim.Native.Nat.{◌+◌, ◌≤◌}
 use lib.ListN.{length, take, drop}
 use lib.Seq.{sets}
 use Rattle.bank.specs.Entries.{place_of}
@@ -11,6 +11,3 @@ abbrev pub invariant-loop-k : goal.invariant-loop-k
 invariant-loop-k l =
     (l.k ≤ l.count) × (length l.out ≡ length l.initial.out) × (l.at + length (slices_of l.starts l.payloads (drop l.k (take l.count l.places))) ≤ length l.initial.out)
     × (sets l.out l.at (slices_of l.starts l.payloads (drop l.k (take l.count l.places))) ≡ sets l.initial.out (place_of l.count) (slices_of l.starts l.payloads (take l.count l.places)))
-
-abbrev pub decreases-loop-k : goal.decreases-loop-k
-decreases-loop-k l = l.count - l.k

@@ -16,17 +16,12 @@ pub returns-in-Duty : goal.returns-in-Duty
 returns-in-Duty c =
     let a = c.args in
     let e = c.map.ensures in
-    rw c.in-Duty.is (record { same = through-byte (leveled Duty a.period.counts a.mapper) a.sample c.ranges.sample e.same; valid = e.valid })
+    rw c.in-Duty.is (record { same = through-byte (leveled Duty a.period a.mapper) a.sample c.ranges.sample e.same; valid = e.valid })
 
 pub returns-in-U12 : goal.returns-in-U12
 returns-in-U12 c =
-    rw c.in-U12.is (record { same = ap (celled c.args.mapper) (through-byte to_u12 c.args.sample c.ranges.sample c.pcm_to_dac_u12.ensures); valid = c.requires.0 })
+    rw c.in-U12.is (record { same = ap (celled c.args.mapper) (through-byte to_u12 c.args.sample c.ranges.sample c.pcm_to_dac_u12.ensures); valid = c.requires })
 
 pub returns-in-U16 : goal.returns-in-U16
 returns-in-U16 c =
-    rw c.in-U16.is (record { same = ap (celled c.args.mapper) (through-byte to_u16 c.args.sample c.ranges.sample c.pcm_to_dac_u16.ensures); valid = c.requires.0 })
-
-pub map-requires : goal.map-requires
-map-requires c =
-    let both = c.requires in
-    record { valid_mapper = both.0; valid_period = both.1 }
+    rw c.in-U16.is (record { same = ap (celled c.args.mapper) (through-byte to_u16 c.args.sample c.ranges.sample c.pcm_to_dac_u16.ensures); valid = c.requires })

@@ -10,7 +10,7 @@ use Rattle.buffers.proofs.scales.put_levels.Goals as goal
 pub loop-i-preserved : goal.loop-i-preserved
 loop-i-preserved c =
     let a = c.args in
-    let p = a.period.counts in
+    let p = a.period in
     let raw = a.raw.now in
     let z = get_or raw c.loop-i.i (pos 0) in
     let d = c.cell-d.result in
@@ -25,7 +25,7 @@ loop-i-preserved c =
 pub returns : goal.returns
 returns c =
     let a = c.args in
-    let p = a.period.counts in
+    let p = a.period in
     let h : c.loop-i.i ≡ a.k = omega arith in
     (record { same = mapper-none a.level p a.raw.now a.k c.loop-i.state h ∙ c.loop-i.invariant.2; valid = c.loop-i.invariant.1 }, put-end _ _ _ (levels-none a.level p a.raw.now a.k c.loop-i.state h) c.loop-i.invariant.3)
 
@@ -36,7 +36,7 @@ pub bounds-raw-i : goal.bounds-raw-i
 bounds-raw-i c = omega (arith, c.requires.0)
 
 pub cell-d-requires : goal.cell-d-requires
-cell-d-requires c = (c.loop-i.invariant.1, c.requires.3)
+cell-d-requires c = c.loop-i.invariant.1
 
 pub overflow_add-out : goal.overflow_add-out
 overflow_add-out c = omega (arith, c.requires.1, c.well_formed.1.1.1.1.1.1.0.0)

@@ -9,8 +9,8 @@ use Rattle.buffers.proofs.scales.put_levels.Given as goal
 
 abbrev pub invariant-loop-i : goal.invariant-loop-i
 invariant-loop-i l =
-    (l.i ≤ l.k) × ValidMapper l.state × (mapper_over l.level l.period.counts l.state (drop l.i (take l.k l.raw)) ≡ mapper_over l.level l.period.counts l.initial.state (take l.k l.raw))
-    × Putting (levels_over l.level l.period.counts l.initial.state (take l.k l.raw)) l.initial.out l.at (levels_over l.level l.period.counts l.state (drop l.i (take l.k l.raw))) l.i l.out
+    (l.i ≤ l.k) × ValidMapper l.state × (mapper_over l.level l.period l.state (drop l.i (take l.k l.raw)) ≡ mapper_over l.level l.period l.initial.state (take l.k l.raw))
+    × Putting (levels_over l.level l.period l.initial.state (take l.k l.raw)) l.initial.out l.at (levels_over l.level l.period l.state (drop l.i (take l.k l.raw))) l.i l.out
 
 abbrev pub decreases-loop-i : goal.decreases-loop-i
 decreases-loop-i l = l.k - l.i

@@ -1,36 +1,39 @@
--- The numbers of the loop are an envelope's after j ticks, and what is stored are their levels. The measure is the ticks left.
--- Assumes nothing.
-use mathlib.Core.Path.{◌≡◌, refl}
-use Prim.Native.Nat.{◌+◌, ◌-◌, ◌≤◌}
-use native.Mathlib.Omega.{arith}
+-- The numbers of the loop are an envelope's after so many ticks, and what is stored are their levels. Assumes nothing.
+use Rattle.std.proofs.Common.{arith, ◌≡◌, ◌∙◌, ap, ◌+◌, ◌≤◌, length}
+use lib.Seq.{sets}
+use Rattle.laws.proofs.Stores.{wrote_none, front-one, length-cells}
 use Rattle.envelope.specs.declared.Adsr.{Adsr}
-use Rattle.envelope.specs.Adsrs.{in_phase, advanced_toward}
-use Rattle.laws.proofs.Stores.{Wrote, wrote_none, wrote_one}
+use Rattle.envelope.specs.Adsrs.{advanced_toward}
+use Rattle.envelope.proofs.Parts.{part-length, part-sets, wrote-all}
 use Rattle.envelope.proofs.Adsr.ramp.Goals as goal
 
-pub loop-j-init : goal.loop-j-init
-loop-j-init c = (omega arith, omega arith, wrote_none _ _)
+pub loop-cell-init : goal.loop-cell-init
+loop-cell-init c = (omega arith, wrote_none _ _)
 
 pub overflow_add-count : goal.overflow_add-count
-overflow_add-count c = omega (arith, c.requires.1, c.loop-j.invariant.1)
+overflow_add-count c =
+    record { fits = omega (arith, c.requires.1, c.loop-cell.invariant.0, part-length c.args.out.now c.args.at c.args.n (omega arith)) }
 
 pub next_level-level-requires : goal.next_level-level-requires
-next_level-level-requires c = (omega (arith, c.requires.1), omega (arith, c.requires.1, c.loop-j.invariant.1))
+next_level-level-requires c =
+    (omega (arith, c.requires.1), omega (arith, c.requires.1, c.loop-cell.invariant.0, part-length c.args.out.now c.args.at c.args.n (omega arith)))
 
-pub overflow_add-out : goal.overflow_add-out
-overflow_add-out c = omega (arith, c.requires.0)
-
-pub bounds-out-at : goal.bounds-out-at
-bounds-out-at c = omega (arith, c.requires.0)
-
-pub overflow_step-j : goal.overflow_step-j
-overflow_step-j c = omega (arith, c.requires.0)
-
-pub loop-j-preserved : goal.loop-j-preserved
+pub loop-cell-preserved : goal.loop-cell-preserved
 unfolding advanced_toward
-loop-j-preserved c =
-    (omega arith, omega (arith, c.loop-j.invariant.1), rw c.next_level-level.ensures (wrote_one _ _ c.loop-j.invariant.2))
+loop-cell-preserved c = (omega (arith, c.loop-cell.invariant.0), rw c.next_level-level.ensures (front-one _ _ c.loop-cell.invariant.1))
 
-pub returns : goal.returns
-returns c =
-    let e : c.loop-j.j ≡ c.args.n = omega (arith, c.loop-j.invariant.0, c.loop-j-test.false) in record { value = rw (← e) c.loop-j.invariant.2.state; out_after = rw (← e) c.loop-j.invariant.2.stored }
+pub returns-clause-value : goal.returns-clause-value
+returns-clause-value c =
+    let e : c.loop-cell.cell-index ≡ c.args.n = omega (arith, part-length c.args.out.now c.args.at c.args.n (omega arith)) in
+    rw (← e) c.loop-cell.invariant.1.state
+
+pub returns-clause-out_after : goal.returns-clause-out_after
+returns-clause-out_after c =
+    let a = c.args in
+    let h : a.at + a.n ≤ length a.out.now = omega arith in
+    let l = part-length a.out.now a.at a.n h in
+    let e : c.loop-cell.cell-index ≡ a.n = omega (arith, l) in
+    let f = wrote-all a.n (rw e at c.loop-cell.invariant.1) l in
+    part-sets a.out.now a.at a.n h c.loop-cell.cell-items
+    (ap length f ∙ length-cells _ (λ (x : Adsr). (advanced_toward a.target x).level_q8) a.n a.self)
+    ∙ ap (sets a.out.now a.at) f

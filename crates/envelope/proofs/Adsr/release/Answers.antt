@@ -1,5 +1,4 @@
 -- Idle or not, and the length's test, are the definition's. Assumes nothing.
-use borrow.Author.Rules.{rules}
 use borrow.Author.Tests.{eq-eqb, ne_eqb}
 use Rattle.envelope.specs.Adsrs.{released}
 use Rattle.laws.proofs.Made.{made}

@@ -1,10 +1,9 @@
 -- Each arm is the definition's clause at that phase; the end of a phase is the test of count and length. Assumes nothing.
-use mathlib.Core.Path.{refl, ◌∙◌}
-use borrow.Author.Rules.{rules}
+use mathlib.Core.Path.{refl, sym, ◌∙◌}
 use Rattle.envelope.specs.declared.AdsrPhase.TheVariants as P
-use Rattle.envelope.specs.Adsrs.{ticked, advanced_toward, began_decay, sustained, ended}
+use Rattle.envelope.specs.Adsrs.{advanced_toward, began_decay, sustained, ended}
 use Rattle.laws.proofs.Made.{made}
-use Rattle.envelope.proofs.Laws.{valid-ticked, goes_on, ends}
+use Rattle.envelope.proofs.Laws.{valid-ticked, ticked-still, goes_on, ends}
 use Rattle.envelope.proofs.Adsr.tick.Goals as goal
 
 pub advance_toward-a-requires : goal.advance_toward-a-requires
@@ -57,9 +56,4 @@ returns-else-a-3 c =
     (valid-ticked c.requires)
 
 pub returns-in-Sustain : goal.returns-in-Sustain
-unfolding ticked
-returns-in-Sustain c = made (rw c.in-Sustain.is) (valid-ticked c.requires)
-
-pub returns-in-Idle : goal.returns-in-Idle
-unfolding ticked
-returns-in-Idle c = made (rw c.in-Idle.is) (valid-ticked c.requires)
+returns-in-Sustain c = made (sym (ticked-still c.in-Sustain.is)) (valid-ticked c.requires)

@@ -1,11 +1,8 @@
 -- The envelope is the one after k ticks, and what is stored are their levels. The measure is the ticks left. Assumes nothing.
-use mathlib.Core.Path.{◌≡◌, refl}
-use Prim.Native.Nat.{◌+◌, ◌-◌, ◌≤◌}
-use native.Mathlib.Nat.{zero-add}
-use native.Mathlib.Omega.{arith}
+use Prim.Native.Nat.{◌-◌, ◌≤◌}
 use Rattle.envelope.specs.declared.Adsr.{Adsr}
 use Rattle.envelope.specs.Adsrs.{Valid, ticked}
-use Rattle.laws.proofs.Stores.{Wrote, wrote_none, wrote_one, wrote-more}
+use Rattle.laws.proofs.Stores.{Wrote}
 use Rattle.envelope.proofs.Adsr.tick_all.Given as goal
 
 abbrev pub invariant-loop-k : goal.invariant-loop-k

@@ -1,5 +1,4 @@
 -- The test of the length is the definition's. Assumes nothing.
-use borrow.Author.Rules.{rules}
 use borrow.Author.Tests.{eq-eqb, ne_eqb}
 use Rattle.envelope.specs.Adsrs.{triggered}
 use Rattle.laws.proofs.Made.{made}

@@ -2,7 +2,6 @@
 use mathlib.Core.Path.{◌≡◌, refl, sym, ap, ◌∙◌}
 use Prim.Native.Nat.{ℕ, ◌+◌, ◌<◌}
 use mathlib.Core.List.{List}
-use borrow.Author.Rules.{rules}
 use lib.ListN.{replicate}
 use lib.Seq.{sets}
 use Rattle.laws.specs.Made.{Made}
@@ -13,6 +12,7 @@ use Rattle.envelope.specs.declared.AdsrPhase.{AdsrPhase}
 use Rattle.envelope.specs.declared.AdsrPhase.TheVariants as P
 use Rattle.envelope.specs.Adsrs.{Valid, ticked, ticked_in, advanced_toward, or_at_end, began_decay, sustained, ended}
 use Rattle.envelope.specs.Blocks.{level_after, level_toward}
+use Rattle.envelope.proofs.Laws.{ticked-still}
 use Rattle.envelope.proofs.Ticks.{valid-ticks, after-within, given-within, still_after, still-given}
 use Rattle.envelope.proofs.Adsr.within.Goals as goal
 
@@ -58,13 +58,6 @@ returns-in-Release c =
     record { made = both.0; out_after = both.1 }
 
 pub returns-in-Sustain : goal.returns-in-Sustain
-unfolding ticked
 returns-in-Sustain c =
-    let both = stood c.args.self c.args.n c.args.at c.args.out.now c.requires.0 (rw c.in-Sustain.is) c.hold.ensures in
-    record { made = both.0; out_after = both.1 }
-
-pub returns-in-Idle : goal.returns-in-Idle
-unfolding ticked
-returns-in-Idle c =
-    let both = stood c.args.self c.args.n c.args.at c.args.out.now c.requires.0 (rw c.in-Idle.is) c.hold-in-Idle.ensures in
+    let both = stood c.args.self c.args.n c.args.at c.args.out.now c.requires.0 (ticked-still c.in-Sustain.is) c.hold.ensures in
     record { made = both.0; out_after = both.1 }

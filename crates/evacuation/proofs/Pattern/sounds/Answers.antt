@@ -4,7 +4,7 @@ use Rattle.evacuation.proofs.Cycles.{stands-sounds}
 use Rattle.evacuation.proofs.Pattern.sounds.Goals as goal
 
 pub is_on-requires : goal.is_on-requires
-is_on-requires c = c.place-place.ensures.phase
+is_on-requires c = c.place.ensures.phase
 
 pub returns : goal.returns
-returns c = c.is_on.ensures ∙ sym (stands-sounds c.place-place.ensures)
+returns c = c.is_on.ensures ∙ sym (stands-sounds c.place.ensures)

@@ -1,6 +1,4 @@
 -- `exports::plays::panned` meets its contract: the pans that are left, from each turn on, give what all give.
-use Prim.Native.Nat.{◌-◌}
-use lib.ListN.{length}
 use Rattle.sounder.specs.Sounders.{ValidSounder}
 use Rattle.exports_parts.proofs.Panning.{Panning}
 use Rattle.exports_play.specs.Plays.{calls}
@@ -8,6 +6,3 @@ use Rattle.exports.proofs.plays.panned.Given as goal
 
 abbrev pub invariant-loop-i : goal.invariant-loop-i
 invariant-loop-i l = Panning calls ValidSounder l.pans l.initial.s l.i l.s
-
-abbrev pub decreases-loop-i : goal.decreases-loop-i
-decreases-loop-i l = length l.pans - l.i

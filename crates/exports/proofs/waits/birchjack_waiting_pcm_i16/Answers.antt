@@ -4,14 +4,14 @@ use Rattle.exports.specs.Waits.{lent}
 use Rattle.exports.proofs.Leaving.{waited}
 use Rattle.exports.proofs.waits.birchjack_waiting_pcm_i16.Goals as goal
 
-pub returns-in-Refused : goal.returns-in-Refused
-returns-in-Refused c =
-    let t = told-refused _ _ (rw c.settings-config.ensures at c.ready-c.ensures.same) c.in-Refused.is in
-    record { number = rw (t, c.number.ensures); cells = rw t }
+pub returns-in-Err : goal.returns-in-Err
+returns-in-Err c =
+    let t = told-refused _ _ (rw c.settings-config.ensures at c.ready-c.ensures.same) c.in-Err.is in
+    record { number = rw (t, c.from.ensures); cells = rw t }
 
-pub returns-in-Done : goal.returns-in-Done
-returns-in-Done c =
-    let t = told-done _ _ (rw c.settings-config.ensures at c.ready-c.ensures.same) c.in-Done.is in
+pub returns-in-Ok : goal.returns-in-Ok
+returns-in-Ok c =
+    let t = told-done _ _ (rw c.settings-config.ensures at c.ready-c.ensures.same) c.in-Ok.is in
     let a = c.args in
     let cells = lent a.numbers.now a.out.now a.labels.now a.count.now a.dropped.now in
     record {

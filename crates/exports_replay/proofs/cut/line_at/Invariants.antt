@@ -1,9 +1,8 @@
 -- `exports_replay::cut::line_at` meets its contract: no newline stands before the place that the loop has come to. The measure is what is left of the
 -- script.
 use Prim.Native.Nat.{◌-◌}
-use native.Mathlib.Omega.{arith}
 use lib.ListN.{length}
-use Rattle.exports_replay.proofs.Cutting.{Seeking, seek-start, seek-turn, seek_found, seek-ended}
+use Rattle.exports_replay.proofs.Cutting.{Seeking}
 use Rattle.exports_replay.proofs.cut.line_at.Given as goal
 
 abbrev pub invariant-loop-i : goal.invariant-loop-i

@@ -2,9 +2,8 @@
 use mathlib.Core.Path.{◌≡◌, refl, ◌∙◌}
 use Prim.Native.Nat.{◌-◌, ◌≤◌}
 use native.Mathlib.Omega.{arith}
-use borrow.Author.Tests.{ltb-true, ltb-false}
-use lib.ListN.{length, drop, length-set}
-use lib.Seq.{sets}
+use borrow.Author.Tests.{ltb-true}
+use lib.ListN.{length-set}
 use Rattle.exports_replay.proofs.Room.{put-turn, put_all, put_full}
 use Rattle.exports_replay.proofs.put.bytes.Goals as goal
 

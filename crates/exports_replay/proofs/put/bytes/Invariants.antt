@@ -1,11 +1,8 @@
 -- `exports_replay::put::bytes` meets its contract: what is left to store is what there was. The measure is what is left of the bytes.
-use mathlib.Core.Path.{◌≡◌, refl, ◌∙◌}
+use mathlib.Core.Path.{◌≡◌, ◌∙◌}
 use Prim.Native.Nat.{◌-◌, ◌≤◌}
-use native.Mathlib.Omega.{arith}
-use borrow.Author.Tests.{ltb-true, ltb-false}
-use lib.ListN.{length, drop, length-set}
+use lib.ListN.{length, drop}
 use lib.Seq.{sets}
-use Rattle.exports_replay.proofs.Room.{put-turn, put_all, put_full}
 use Rattle.exports_replay.proofs.put.bytes.Given as goal
 
 abbrev pub invariant-loop-i : goal.invariant-loop-i

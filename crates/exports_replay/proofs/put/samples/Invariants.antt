@@ -1,15 +1,8 @@
 -- `exports_replay::put::samples` meets its contract: what is left to store is what there was. The measure is what is left of the samples.
-use mathlib.Core.Path.{◌≡◌, refl, ◌∙◌}
+use mathlib.Core.Path.{◌≡◌, ◌∙◌}
 use Prim.Native.Nat.{◌-◌, ◌≤◌}
-use native.Mathlib.Omega.{arith}
-use borrow.Author.Tests.{ltb-true, ltb-false}
-use lib.IntN.{pos}
-use lib.ListN.{length, drop, get_or, length-set}
+use lib.ListN.{length, drop}
 use lib.Seq.{sets}
-use mir.Syntax.{w16}
-use mir.Val.{SFits}
-use mir.ValLaws.{to_z-of_z}
-use Rattle.exports_replay.proofs.Room.{put-turn, put_all, put_full}
 use Rattle.exports_replay.proofs.put.samples.Given as goal
 
 abbrev pub invariant-loop-i : goal.invariant-loop-i

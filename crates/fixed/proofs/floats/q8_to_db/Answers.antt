@@ -1,8 +1,8 @@
 -- `fixed::floats::q8_to_db` meets its contract. The quotient is no NaN, by a test over the 256 gains; the fields of its bits are small.
 -- a quotient of small numbers is a number
-use Rattle.std.proofs.Common.{◌≡◌, ℕ, suc, ◌+◌, ◌-◌, ◌/◌, ◌%◌, ◌^◌, ◌<◌, ◌≤◌, Bool, true, false, cond, not, T, ltb, ℤ, pos, negsuc, ◌-ℤ◌, refl, arith, le→leb, lt→ltb, w32, SFits, to_z, rules, ltb-true, le-ltb, eq-eqb, ne_eqb}
+use Rattle.std.proofs.Common.{◌≡◌, ℕ, suc, ◌+◌, ◌-◌, ◌/◌, ◌%◌, ◌^◌, ◌<◌, ◌≤◌, Bool, true, false, cond, not, T, ltb, pos, negsuc, ◌-ℤ◌, refl, arith, le→leb, lt→ltb, w32, SFits, ltb-true, le-ltb, eq-eqb, ne_eqb}
 use lib.IntN.{sub_ℕ}
-use lib.Ieee.{Float, binary32, to_bits, div, of_int, of_bits, round, neg, is_nan, nan_bits, in_float}
+use lib.Ieee.{binary32, to_bits, div, of_int, of_bits, round, neg, is_nan, nan_bits, in_float}
 use lib.Ieee.Bits.{nan_bits_above}
 use mir.ValLaws.{to_z-of_z}
 use Rattle.laws.proofs.Finite.{below}
@@ -46,19 +46,19 @@ unfolding db_of_gain of_bits round neg
 returns-then-gain_q8-eq0 c = rw (eq-eqb _ _ c.if-gain_q8-eq0.true)
 
 pub float_to_bits-bits : goal.float_to_bits-bits
-float_to_bits-bits c = some c.args.gain_q8 (omega arith)
+float_to_bits-bits c = rw c.from-lin.ensures (some c.args.gain_q8 (omega arith))
 
 pub overflow_sub-exp : goal.overflow_sub-exp
-overflow_sub-exp c = let f = fields (bits_of c.args.gain_q8) in rw (to_z-nat f.field) f.exp
+overflow_sub-exp c = let f = fields (bits_of c.args.gain_q8) in rw (c.from-lin.ensures, to_z-nat f.field) f.exp
 
 pub float_from_bits-mantissa : goal.float_from_bits-mantissa
 float_from_bits-mantissa c = (fields _).number
 
 pub int_to_float-log2_val : goal.int_to_float-log2_val
-int_to_float-log2_val c = let f = fields (bits_of c.args.gain_q8) in rw (to_z-nat f.field, to_z-of_z w32 _ f.exp) f.small
+int_to_float-log2_val c = let f = fields (bits_of c.args.gain_q8) in rw (c.from-lin.ensures, to_z-nat f.field, to_z-of_z w32 _ f.exp) f.small
 
 pub returns : goal.returns
 unfolding db_of_gain log2_of of_bits round neg
 returns c =
     let f = fields (bits_of c.args.gain_q8) in
-    rw (ne_eqb _ _ c.if-gain_q8-eq0.false, c.clamp_f32.ensures, to_z-nat f.field, to_z-of_z w32 _ f.exp)
+    rw (ne_eqb _ _ c.if-gain_q8-eq0.false, c.clamp_f32.ensures, c.from-lin.ensures, to_z-nat f.field, to_z-of_z w32 _ f.exp)

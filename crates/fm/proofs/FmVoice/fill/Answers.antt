@@ -2,23 +2,16 @@
 use Rattle.std.proofs.Common.{◌≡◌, ◌≤◌, min, length, sym, ◌∙◌, arith, rules}
 use native.Mathlib.Nat.{min-le_right}
 use Rattle.fm.proofs.Requests.{fm-after, fm-stays, filled-active, filled-silent}
-use Rattle.fm.proofs.FmVoice.fill.Goals.{After-cells-1, After-lesser-n}
 use Rattle.fm.proofs.FmVoice.fill.Goals as goal
-
-full : (c : After-cells-1) → length c.args.out.now ≡ 256
-full c = search rules
-
-requests : (c : After-lesser-n) → c.lesser-n.result ≡ min c.args.len 256
-requests c = c.lesser-n.ensures ∙ rw (full c.before)
 
 pub returns-then-self : goal.returns-then-self
 returns-then-self c =
     let a = c.args in
-    let e = requests (goal.at.returns-then-self c).After-lesser-n in
-    let h : c.lesser-n.result ≤ length a.out.now = omega (arith, full (goal.at.returns-then-self c).After-cells-1, e, min-le_right a.len 256) in
-    rw (← e) (record {
-      voice_value = c.samples-voice.ensures.value ∙ sym (fm-after c.lesser-n.result a.self c.if-self.true);
-      filled = filled-active c.lesser-n.result a.self a.out.now c.if-self.true h c.samples-voice.ensures.out_after;
+    let full : length a.out.now ≡ 256 = search rules in
+    let h : c.min-n.result ≤ length a.out.now = omega (arith, c.min-n.ensures, min-le_right a.len 256) in
+    rw (← c.min-n.ensures) (record {
+      voice_value = c.samples-voice.ensures.value ∙ sym (fm-after c.min-n.result a.self c.if-self.true);
+      filled = filled-active c.min-n.result a.self a.out.now c.if-self.true h c.samples-voice.ensures.out_after;
     })
 
 pub returns-else-self : goal.returns-else-self

@@ -1,5 +1,4 @@
--- `fm::FmVoice::samples` meets its contract: the two phases are the oscillator's after k samples, which are stored. The measure is
--- the samples left.
+-- `fm::FmVoice::samples` meets its contract: the two phases are the oscillator's after k samples, which are stored.
 use Rattle.std.proofs.Common.{◌≡◌, arith, w8}
 use mir.ValLaws.{to_z-of_z}
 use Rattle.laws.proofs.Stores.{wrote_none, front-one}
@@ -12,7 +11,7 @@ loop-k-init c = (omega arith, wrote_none _ _)
 pub loop-k-preserved : goal.loop-k-preserved
 unfolding fm_sample
 loop-k-preserved c =
-    (omega arith, rw (c.wrapping_add_u32-modulator.ensures.value, c.wrapping_add_u32-carrier.ensures.value, to_z-of_z w8 c.sample_at.result (record { sfits = c.sample_at.type_inv }), c.sample_at.ensures) (front-one _ _ c.loop-k.invariant.1))
+    (omega arith, rw (to_z-of_z w8 c.sample_at.result (record { sfits = c.sample_at.type_inv }), c.sample_at.ensures) (front-one _ _ c.loop-k.invariant.1))
 
 pub returns : goal.returns
 returns c =

@@ -1,6 +1,5 @@
--- `fm::FmVoice::samples` meets its contract: the two phases are the oscillator's after k samples, which are stored. The measure is
--- the samples left.
-use Rattle.std.proofs.Common.{ℕ, ◌-◌, ◌≤◌}
+-- `fm::FmVoice::samples` meets its contract: the two phases are the oscillator's after k samples, which are stored.
+use Rattle.std.proofs.Common.{ℕ, ◌≤◌}
 use Rattle.laws.proofs.Stores.{Wrote}
 use Rattle.fm.specs.declared.FmVoice.{FmVoice}
 use Rattle.fm.specs.Fm.{fm_sample, advanced_fm}
@@ -19,6 +18,3 @@ at_phases v carrier modulator =
 
 abbrev pub invariant-loop-k : goal.invariant-loop-k
 invariant-loop-k l = (l.k ≤ l.n) × Wrote advanced_fm fm_sample l.self l.initial.out 0 l.k (at_phases l.self l.carrier l.modulator) l.out
-
-abbrev pub decreases-loop-k : goal.decreases-loop-k
-decreases-loop-k l = l.n - l.k

@@ -1,22 +1,9 @@
 -- The voice with the pan stored in its place, or nothing. Assumes nothing.
-use native.Mathlib.Omega.{arith}
 use mathlib.Core.Path.{refl, sym}
 use Rattle.laws.proofs.Made.{made}
 use Rattle.mixer.specs.Mixers.{panned}
 use Rattle.mixer.proofs.Laws.{read_none, panned-there, valid-panned}
 use Rattle.mixer.proofs.Mixer.set_voice_pan.Goals as goal
-
-pub offset_bounds-out-idx : goal.offset_bounds-out-idx
-offset_bounds-out-idx c = omega (arith, c.requires.few)
-
-pub bounds-out-idx : goal.bounds-out-idx
-bounds-out-idx c = omega (arith, c.requires.few)
-
-pub offset_bounds-out-idx-then-idx-self : goal.offset_bounds-out-idx-then-idx-self
-offset_bounds-out-idx-then-idx-self c = omega (arith, c.requires.few)
-
-pub bounds-out-idx-then-idx-self : goal.bounds-out-idx-then-idx-self
-bounds-out-idx-then-idx-self c = omega (arith, c.requires.few)
 
 pub returns-then-idx-self : goal.returns-then-idx-self
 returns-then-idx-self c =

@@ -1,7 +1,7 @@
 -- The voices one by one, after the rest. Assumes nothing.
 use mathlib.Core.Bool.{false}
 use Prim.Native.Nat.{ℕ, ◌<◌}
-use mathlib.Core.Path.{◌≡◌, refl}
+use mathlib.Core.Path.{◌≡◌}
 use native.Mathlib.Omega.{arith}
 use Rattle.laws.specs.Lists.{map_first}
 use Rattle.laws.proofs.Made.{made}
@@ -34,29 +34,11 @@ all-stopped : (m out : Mixer) (mapper : PwmMapper) (i : ℕ) → out ≡ with_vo
 unfolding stopped
 all-stopped m out mapper i e f g = rw (e, f, g)
 
-pub loop-i-init : goal.loop-i-init
-loop-i-init c = (omega arith, refl)
-
-pub offset_bounds-out-i : goal.offset_bounds-out-i
-offset_bounds-out-i c = omega (arith, c.requires.few)
-
-pub bounds-out-i : goal.bounds-out-i
-bounds-out-i c = omega (arith, c.requires.few)
-
 pub stop_immediate-requires : goal.stop_immediate-requires
 stop_immediate-requires c =
     let v = c.requires in
     let h : c.loop-i.i < 16 = omega (arith, v.few) in
     map-valid stopped_voice (λ v k. L.valid-stopped {v = v} k) c.loop-i.out _ c.loop-i.i c.loop-i.i _ c.loop-i.invariant.1 v.each v.full h
-
-pub offset_bounds-out-i-in-loop-i : goal.offset_bounds-out-i-in-loop-i
-offset_bounds-out-i-in-loop-i c = omega (arith, c.requires.few)
-
-pub bounds-out-i-in-loop-i : goal.bounds-out-i-in-loop-i
-bounds-out-i-in-loop-i c = omega (arith, c.requires.few)
-
-pub overflow_step-i : goal.overflow_step-i
-overflow_step-i c = omega (arith, c.requires.few)
 
 pub loop-i-preserved : goal.loop-i-preserved
 loop-i-preserved c =
@@ -65,4 +47,4 @@ loop-i-preserved c =
 pub returns : goal.returns
 returns c =
     let h : c.loop-i.i ≡ c.args.self.n = omega arith in
-    made (all-stopped c.args.self c.loop-i.out _ c.loop-i.i c.loop-i.invariant.1 c.reset-mapper.ensures.same h) (valid-stopped c.requires)
+    made (all-stopped c.args.self c.loop-i.out _ c.loop-i.i c.loop-i.invariant.1 c.reset.ensures.same h) (valid-stopped c.requires)

@@ -1,54 +1,35 @@
--- `output::SigmaDelta::shape` meets its contract. The wrapped sum is an i32, and what is not negative can lose 65,536.
-use borrow.Author.Rules.{rules}
-use mathlib.Core.Path.{◌≡◌, ◌∙◌}
-use mathlib.Core.Bool.{true}
-use native.Mathlib.Omega.{arith}
-use lib.IntN.{ℤ, pos, negsuc, ◌+ℤ◌, ◌-ℤ◌, ◌*ℤ◌}
+-- `output::SigmaDelta::shape` meets its contract: the wrapped sum is document 01's, and what is not negative can lose 65,536.
+use Rattle.std.proofs.Common.{rules, arith, ◌≡◌, ◌∙◌, ◌+◌, ◌%◌, true, ℤ, pos, ◌+ℤ◌, ◌-ℤ◌, ◌*ℤ◌, to_z, of_z, w8, w32, FitsSigned}
+use Rattle.std.proofs.lemmas.Int.{ints, wrapping_add_is, to_z-of_z}
 use lib.Signed.{le_z}
-use mir.Syntax.{w32}
-use mir.Val.{SFits}
-use mir.ValLaws.{to_z-of_z}
 use Rattle.laws.specs.Whole.{wrap32}
-use Rattle.laws.proofs.Bools.{never}
-use Rattle.laws.proofs.Signed.{signed, sub-fits}
 use Rattle.output.specs.Shapers.{shaped}
-use Rattle.output.proofs.Laws.{Scaled, scaled_fits}
-use Rattle.output.proofs.SigmaDelta.shape.Goals.{After-wrapping_add_i32-sum, Start, Then-sum-ge0}
+use Rattle.output.proofs.Laws.{int_wrap-wrap32, wrap32-fits}
 use Rattle.output.proofs.SigmaDelta.shape.Goals as goal
 
-fit_c : (c : Start) → Scaled w32 c.args.pcm 256
-fit_c c = scaled_fits 256 c.ranges.pcm tt tt tt
+-- the code's sum
+sum_c : (a s r : ℤ) → FitsSigned w32 a → FitsSigned w8 s → r ≡ to_z w8 (of_z w8 s)
+    → to_z w32 ((of_z w32 a + of_z w32 (to_z w32 (of_z w32 r) *ℤ pos 256)) % 4294967296) ≡ wrap32 (a +ℤ s *ℤ pos 256)
+sum_c a s r p q e =
+    let g : FitsSigned w32 (s *ℤ pos 256) = omega (arith, ints) in
+    let w : FitsSigned w32 s = omega (arith, ints) in
+    rw (e, to_z-of_z w8 s q, to_z-of_z w32 s w) (wrapping_add_is w32 a (s *ℤ pos 256) p g ∙ int_wrap-wrap32 _)
 
-value : (c : After-wrapping_add_i32-sum) → c.wrapping_add_i32-sum.result ≡ wrap32 (c.args.self.integrator +ℤ c.args.pcm *ℤ pos 256)
-value c = let f = fit_c c.before.before in c.wrapping_add_i32-sum.ensures ∙ search signed
-
-less : (z : ℤ) → SFits w32 z → le_z (pos 0) z ≡ true → SFits w32 (z -ℤ pos 65536)
-less (pos n) f t = sub-fits n 65536 (omega arith) (omega arith)
-less (negsuc k) f t = never t
-
-held : (c : After-wrapping_add_i32-sum) → SFits w32 c.wrapping_add_i32-sum.result
-held c = record { sfits = c.wrapping_add_i32-sum.type_inv }
-
-rest : (c : Then-sum-ge0) → SFits w32 (c.wrapping_add_i32-sum.result -ℤ pos 65536)
-rest c = less _ (held c.before) (rw (to_z-of_z w32 _ (held c.before)) at c.if-sum-ge0.true)
-
-pub overflow_cast-pcm : goal.overflow_cast-pcm
-overflow_cast-pcm c = let f = fit_c (goal.at.overflow_cast-pcm c).Start in search signed
-
-pub overflow_mul-pcm : goal.overflow_mul-pcm
-overflow_mul-pcm c = let f = fit_c (goal.at.overflow_mul-pcm c).Start in search signed
-
-pub overflow_sub-rest : goal.overflow_sub-rest
-overflow_sub-rest c = rw (to_z-of_z w32 _ (held (goal.at.overflow_sub-rest c).After-wrapping_add_i32-sum)) (rest c)
+less : (z : ℤ) → FitsSigned w32 z → le_z (pos 0) z ≡ true → FitsSigned w32 (z -ℤ pos 65536)
+less z f t = grind (arith, ints)
 
 pub returns-then-sum-ge0 : goal.returns-then-sum-ge0
 unfolding shaped
 returns-then-sum-ge0 c =
-    let r = to_z-of_z w32 _ (held (goal.at.returns-then-sum-ge0 c).After-wrapping_add_i32-sum) in
-    rw (r, to_z-of_z w32 _ (rest c), ← value (goal.at.returns-then-sum-ge0 c).After-wrapping_add_i32-sum, rw r at c.if-sum-ge0.true)
+    let f : FitsSigned w32 c.args.self.integrator = search rules in
+    let e = sum_c _ c.args.pcm _ f c.ranges.pcm c.from.ensures in
+    let t = rw e at c.if-sum-ge0.true in
+    rw (e, to_z-of_z w32 _ (less _ (wrap32-fits _) t), t)
 
 pub returns-else-sum-ge0 : goal.returns-else-sum-ge0
 unfolding shaped
 returns-else-sum-ge0 c =
-    let r = to_z-of_z w32 _ (held (goal.at.returns-else-sum-ge0 c).After-wrapping_add_i32-sum) in
-    rw (r, ← value (goal.at.returns-else-sum-ge0 c).After-wrapping_add_i32-sum, rw r at c.if-sum-ge0.false)
+    let f : FitsSigned w32 c.args.self.integrator = search rules in
+    let e = sum_c _ c.args.pcm _ f c.ranges.pcm c.from.ensures in
+    let t = rw e at c.if-sum-ge0.false in
+    rw (e, t)

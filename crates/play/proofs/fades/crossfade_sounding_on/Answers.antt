@@ -3,10 +3,10 @@ use Prim.Native.Nat.{◌≤◌}
 use mathlib.Core.Path.{sym, ap, ◌∙◌}
 use borrow.Author.Tests.{lt-ltb, le-ltb}
 use Rattle.error.proofs.Told.{refusal-number}
-use Rattle.start.specs.Starts.{told_start}
 use Rattle.play.specs.Fades.{faded_by, faded_on}
 use Rattle.play.proofs.Laws.{released-count}
 use Rattle.play.proofs.fades.crossfade_sounding_on.Goals as goal
+use Rattle.error.specs.Told.{told}
 
 pub returns-then-m-lt2 : goal.returns-then-m-lt2
 unfolding faded_on
@@ -19,26 +19,26 @@ pub faded_by-requires : goal.faded_by-requires
 faded_by-requires c =
     let k : 2 ≤ c.first_released-fading.result.n = rw (c.first_released-fading.ensures.same, released-count _) c.if-m-lt2.false in record { valid = c.first_released-fading.ensures.valid; le_n = (k, c.start_request-started.ensures.valid) }
 
-pub returns-in-Refused : goal.returns-in-Refused
+pub returns-in-Err : goal.returns-in-Err
 unfolding faded_on
-returns-in-Refused c =
+returns-in-Err c =
     record {
-      same = rw (le-ltb _ _ c.if-m-lt2.false, sym c.start_request-started.ensures.same ∙ ap told_start c.in-Refused.is, refusal-number c.in-Refused.e);
+      same = rw (le-ltb _ _ c.if-m-lt2.false, sym c.start_request-started.ensures.same ∙ ap told c.in-Err.is, refusal-number c.in-Err.e);
       valid = c.requires;
     }
 
-pub returns-in-Voice : goal.returns-in-Voice
+pub returns-in-Ok : goal.returns-in-Ok
 unfolding faded_on faded_by
-returns-in-Voice c =
+returns-in-Ok c =
     let r = c.faded_by.ensures in
     record {
       same =
           rw (
             le-ltb _ _ c.if-m-lt2.false,
-            sym c.start_request-started.ensures.same ∙ ap told_start c.in-Voice.is,
+            sym c.start_request-started.ensures.same ∙ ap told c.in-Ok.is,
             r.same,
             c.first_released-fading.ensures.same,
-            c.in-Voice.is,
+            c.in-Ok.is,
           );
       valid = r.valid;
     }

@@ -6,14 +6,14 @@ use Rattle.play.proofs.fades.faded_by.Goals as goal
 
 pub begun-requires : goal.begun-requires
 begun-requires c =
-    let p = c.requires in record { valid = p.valid; le_n = (p.le_n.0, rw c.crossfade_step_q8-step.ensures (step-least _ _), rw c.in-Voice.is at p.le_n.1) }
+    let p = c.requires in record { valid = p.valid; le_n = (p.le_n.0, rw c.crossfade_step_q8-step.ensures (step-least _ _), rw c.in-Ok.is at p.le_n.1) }
 
-pub returns-in-Refused : goal.returns-in-Refused
+pub returns-in-Err : goal.returns-in-Err
 unfolding faded_by
-returns-in-Refused c = record { same = rw (c.in-Refused.is, refusal-number c.in-Refused.e); valid = c.requires.valid }
+returns-in-Err c = record { same = rw (c.in-Err.is, refusal-number c.in-Err.e); valid = c.requires.valid }
 
-pub returns-in-Voice : goal.returns-in-Voice
+pub returns-in-Ok : goal.returns-in-Ok
 unfolding faded_by
-returns-in-Voice c =
+returns-in-Ok c =
     let r = c.begun.ensures in
-    record { same = rw (r.same, c.in-Voice.is, c.crossfade_step_q8-step.ensures); valid = r.valid }
+    record { same = rw (r.same, c.in-Ok.is, c.crossfade_step_q8-step.ensures); valid = r.valid }

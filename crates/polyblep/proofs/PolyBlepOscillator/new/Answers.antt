@@ -10,4 +10,4 @@ pub returns : goal.returns
 unfolding new_oscillator of_bits round
 returns c =
     let a = c.args in
-    made (rw (c.at_least_one.ensures, c.phase_step.ensures)) (valid-new a.freq_hz a.sample_rate_hz a.waveform (omega arith) (omega arith))
+    made (rw (c.max.ensures, c.phase_step.ensures)) (valid-new a.freq_hz a.sample_rate_hz a.waveform (omega arith) (omega arith))

@@ -12,14 +12,14 @@ left s = omega arith
 
 pub fill_wave-phase-requires : goal.fill_wave-phase-requires
 fill_wave-phase-requires c =
-    let few : c.given_of-given.result ≤ 256 = omega (arith, c.given_of-given.ensures, given-most c.args.self.samples_left c.args.len, c.requires.fact_1) in
+    let few : c.given_of-given.result ≤ 256 = omega (arith, c.given_of-given.ensures, given-most c.args.self.samples_left c.args.len, c.requires.few) in
     search rules
 
 pub returns : goal.returns
 returns c =
     let v = c.args.self in
     let full : length c.args.out.now ≡ 256 = search rules in
-    let b = block (blep-counted v) c.args.len v.osc.phase v.samples_left (omega (arith, c.requires.fact_1))
-    (ap (blep_at v v.osc.phase v.samples_left) c.requires.fact_2) (left (goal.at.returns c).Start) (omega (arith, c.requires.fact_1))
+    let b = block (blep-counted v) c.args.len v.osc.phase v.samples_left (omega (arith, c.requires.few))
+    (ap (blep_at v v.osc.phase v.samples_left) c.requires.sounds) (left (goal.at.returns c).Start) (omega (arith, c.requires.few))
     c.given_of-given.ensures c.less.ensures c.fill_wave-phase.ensures in
-    record { voice = made b.same (valid-after c.args.len v c.requires.fact_3); given = b.given }
+    record { voice = made b.same (valid-after c.args.len v c.requires.valid); given = b.given }

@@ -20,14 +20,14 @@ minus c =
 
 pub whole_part-requires : goal.whole_part-requires
 unfolding of_bits round
-whole_part-requires c = record { fact_1 = subst T (sym c.if-x.true) tt; fact_2 = subst T (sym c.if-x-2.true) tt }
+whole_part-requires c = record { least = subst T (sym c.if-x.true) tt; most = subst T (sym c.if-x-2.true) tt }
 
 pub overflow_cast-result : goal.overflow_cast-result
 overflow_cast-result c = rw c.whole_part.ensures (byte c.args.x)
 
 pub whole_part-requires-then-x-4 : goal.whole_part-requires-then-x-4
 unfolding round
-whole_part-requires-then-x-4 c = record { fact_1 = (opposite c).least; fact_2 = (opposite c).most }
+whole_part-requires-then-x-4 c = record { least = (opposite c).least; most = (opposite c).most }
 
 pub overflow_cast-result-then-x-4 : goal.overflow_cast-result-then-x-4
 overflow_cast-result-then-x-4 c = rw c.whole_part-then-x-4.ensures (byte (neg c.args.x))

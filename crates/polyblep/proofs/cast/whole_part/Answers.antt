@@ -6,7 +6,7 @@ use Rattle.polyblep.proofs.cast.whole_part.Goals as goal
 
 read : (c : Start) → Whole c.args.x
 unfolding round
-read c = whole c.args.x c.requires.fact_1 c.requires.fact_2
+read c = whole c.args.x c.requires.least c.requires.most
 
 pub float_to_bits-bits : goal.float_to_bits-bits
 float_to_bits-bits c = (read c).number

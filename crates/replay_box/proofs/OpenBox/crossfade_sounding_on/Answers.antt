@@ -1,5 +1,4 @@
 -- What the call of the box of the present rules promises. Assumes nothing.
-use borrow.Author.Rules.{rules}
 use mathlib.Core.Path.{refl}
 use Rattle.replay_box.specs.Boxes.{faded_on, sounder_changed}
 use Rattle.replay_box.proofs.Either.{keeps-sounder, made_by}

@@ -1,5 +1,4 @@
 -- The frames of the box that is open. Assumes nothing.
-use borrow.Author.Rules.{rules}
 use Rattle.buffers.specs.Buffers.{to_i16}
 use Rattle.replay_box.proofs.Along.{shape-sounder, shape-engine}
 use Rattle.replay_box.proofs.OpenBox.fill_i16.Goals as goal

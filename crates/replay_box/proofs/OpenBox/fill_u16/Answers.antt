@@ -1,5 +1,4 @@
 -- The frames of the box that is open. Assumes nothing.
-use borrow.Author.Rules.{rules}
 use Rattle.replay_box.proofs.Along.{level-sounder, level-engine}
 use Rattle.replay_box.proofs.OpenBox.fill_u16.Goals as goal
 

@@ -1,5 +1,4 @@
 -- The frames of the box that is open. Assumes nothing.
-use borrow.Author.Rules.{rules}
 use Rattle.output.specs.Levels.{raised}
 use Rattle.replay_box.proofs.Along.{shape-sounder, shape-engine}
 use Rattle.replay_box.proofs.OpenBox.fill_u8.Goals as goal

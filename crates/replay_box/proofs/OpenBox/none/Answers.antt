@@ -1,5 +1,4 @@
 -- What the two openings promise. Assumes nothing.
-use borrow.Author.Rules.{rules}
 use Rattle.replay_box.specs.Boxes.{no_box}
 use Rattle.replay_box.proofs.OpenBox.none.Goals as goal
 

@@ -1,5 +1,4 @@
 -- What the call of the box that is open promises. Assumes nothing.
-use borrow.Author.Rules.{rules}
 use Rattle.replay_box.specs.Boxes.{opened, opened_sounder, opened_engine}
 use Rattle.replay_box.proofs.Either.{made_by}
 use Rattle.replay_box.proofs.OpenBox.opened.Goals as goal

@@ -1,5 +1,4 @@
 -- What the call of the box that is open promises. Assumes nothing.
-use borrow.Author.Rules.{rules}
 use Rattle.replay_box.specs.Boxes.{played, sounder_played, engine_played}
 use Rattle.replay_box.proofs.Either.{keeps-sounder, keeps-engine, made_by}
 use Rattle.replay_box.proofs.OpenBox.play.Goals as goal

@@ -1,5 +1,4 @@
 -- What the call of the box that is open promises. Assumes nothing.
-use borrow.Author.Rules.{rules}
 use Rattle.replay_box.specs.Boxes.{toned, with_sounder, with_engine}
 use Rattle.replay_box.proofs.Either.{keeps-sounder, keeps-engine, made_by}
 use Rattle.replay_box.proofs.OpenBox.play_tone.Goals as goal

@@ -1,5 +1,4 @@
 -- What the box that is open tells. Assumes nothing.
-use borrow.Author.Rules.{rules}
 use Rattle.replay_box.specs.Boxes.{ranks_of}
 use Rattle.replay_box.proofs.OpenBox.ranks.Goals as goal
 

@@ -1,5 +1,4 @@
 -- What the call of the box that is open promises. Assumes nothing.
-use borrow.Author.Rules.{rules}
 use Rattle.replay_box.specs.Boxes.{with_master_gain, with_sounder, with_engine}
 use Rattle.replay_box.proofs.Either.{keeps-sounder, keeps-engine, made_by}
 use Rattle.replay_box.proofs.OpenBox.set_master_gain_q8.Goals as goal

@@ -1,5 +1,4 @@
 -- What the box that is open tells. Assumes nothing.
-use borrow.Author.Rules.{rules}
 use Rattle.replay_box.specs.Boxes.{mixer_of}
 use Rattle.replay_box.proofs.OpenBox.voice_count.Goals as goal
 

@@ -17,11 +17,11 @@ unfolding is_nan db_of_gain log2_of held_to_f div mul add sub neg lt of_int of_b
 some g h = below (λ k. not (is_nan (db_of_gain k))) 256 tt g h
 
 pub float_to_bits-value : goal.float_to_bits-value
-float_to_bits-value c = rw c.q8_to_db-decibels.ensures (some c.byte_at.result (omega arith))
+float_to_bits-value c = rw c.q8_to_db-value.ensures (some c.byte_at.result (omega arith))
 
 pub overflow_cast-result : goal.overflow_cast-result
 overflow_cast-result c =
-    record { fits = omega (arith, to_bits-lt binary32 c.q8_to_db-decibels.result (subst T (sym c.q8_to_db-decibels.type_inv) tt)) }
+    record { fits = omega (arith, to_bits-lt binary32 c.q8_to_db-value.result (subst T (sym c.q8_to_db-value.type_inv) tt)) }
 
 pub returns : goal.returns
 unfolding to_decibels_reply

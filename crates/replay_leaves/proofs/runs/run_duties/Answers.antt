@@ -9,4 +9,4 @@ returns c =
     let p = c.put_line.ensures in
     rw (sym c.mapper_at.ensures.same, sym c.map_all-to.ensures.made.same)
     (whole (then (then (part (rw p.1 at p.0)) c.map_all-to.ensures.laid) c.put_mapper.ensures.0)
-    (omega (arith, c.map_all-to.ensures.next_bound, c.put_mapper.ensures.1, c.requires.1)))
+    (omega (arith, c.map_all-to.ensures.next_bound, c.put_mapper.ensures.1, c.requires)))

@@ -7,7 +7,7 @@ use Rattle.replay_leaves.proofs.runs.run_levels.Goals as goal
 pub returns : goal.returns
 returns c =
     let p = c.put_line-n.ensures in
-    rw (sym c.wide_at-2.ensures, sym c.wide_at.ensures, sym c.trigger.ensures.same, sym c.ticks-held.ensures.made.same, sym c.release.ensures.same)
+    rw (sym c.wide_at-2.ensures, sym c.wide_at.ensures, sym c.trigger.ensures, sym c.ticks-held.ensures.made, sym c.release.ensures)
     (whole-line (then (then (part p.0) c.ticks-held.ensures.laid) c.ticks-left.ensures.laid)
     (omega (arith, p.1, c.ticks-held.ensures.next_bound, c.ticks-left.ensures.next_bound))
     c.end_line.ensures.0)

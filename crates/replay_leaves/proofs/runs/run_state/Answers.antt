@@ -6,6 +6,6 @@ use Rattle.replay_leaves.proofs.runs.run_state.Goals as goal
 
 pub returns : goal.returns
 returns c =
-    rw (sym c.wide_at-2.ensures, sym c.wide_at.ensures, sym c.trigger.ensures.same, sym c.ticked_by-held.ensures.same, sym c.release.ensures.same, sym c.ticked_by-left.ensures.same, sym c.state.ensures)
+    rw (sym c.wide_at-2.ensures, sym c.wide_at.ensures, sym c.trigger.ensures, sym c.ticked_by-held.ensures, sym c.release.ensures, sym c.ticked_by-left.ensures, sym c.state.ensures.same)
     (whole (then (then (part c.put_line-n.ensures.0) c.put_adsr-end.ensures.0) c.end_line.ensures.0)
     (omega (arith, c.put_line-n.ensures.1, c.put_adsr-end.ensures.1, c.end_line.ensures.1)))

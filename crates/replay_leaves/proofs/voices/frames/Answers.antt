@@ -1,32 +1,34 @@
--- `replay_leaves::voices::frames` meets its contract: what is left of the run, from each turn on, is the run. The measure is the frames left.
+-- `replay_leaves::voices::frames` meets its contract: what is left of the run, from each turn on, is the run.
 use native.Mathlib.Omega.{arith}
-use mathlib.Core.Path.{sym, ap, ◌∙◌}
+use mathlib.Core.Path.{refl, sym, ap, ◌∙◌}
 use Rattle.hex_digits.proofs.Texts.{shown}
 use Rattle.replay_leaves.proofs.Going.{going_start, going-turn, going_end, stepped-none}
 use Rattle.voice.specs.Voices.{stepped_voice}
-use Rattle.voice.specs.declared.VoiceStep.{VoiceStep}
 use Rattle.replay_leaves.specs.Voices.{mono_frame, frame_text}
 use Rattle.replay_leaves.proofs.voices.frames.Goals as goal
 
-pub loop-left-init : goal.loop-left-init
-loop-left-init c = (going_start mono_frame frame_text _ _ _ _, c.requires, omega arith)
+pub loop-init : goal.loop-init
+loop-init c = (going_start mono_frame frame_text _ _ _ _, c.requires, omega arith)
 
-pub tick_envelope-t-requires : goal.tick_envelope-t-requires
-tick_envelope-t-requires c = c.loop-left.invariant.1
+pub tick_envelope-requires : goal.tick_envelope-requires
+tick_envelope-requires c = c.loop.invariant.1
 
 pub next_sample-last-requires : goal.next_sample-last-requires
-next_sample-last-requires c = c.tick_envelope-t.ensures.valid
+next_sample-last-requires c = c.tick_envelope.ensures.valid
 
-pub loop-left-preserved : goal.loop-left-preserved
-loop-left-preserved c =
-    let e = c.next_sample-last.ensures.same ∙ ap stepped_voice c.tick_envelope-t.ensures.same in
-    (going-turn mono_frame frame_text c.loop-left-test.true e c.loop-left.invariant.0 (shown 4 c.given_number.ensures c.put-next.ensures.0), c.next_sample-last.ensures.valid, omega arith)
+pub loop-preserved : goal.loop-preserved
+loop-preserved c =
+    let v = c.loop.invariant in
+    let e = c.next_sample-last.ensures.same ∙ ap stepped_voice c.tick_envelope.ensures.same in
+    (going-turn mono_frame frame_text c.loop-test.true e v.0 (shown 4 c.given_number.ensures c.put-next.ensures.0), c.next_sample-last.ensures.valid, omega (arith, v.2, c.put-next.ensures.1))
 
 pub returns : goal.returns
 returns c =
-    let e = sym (stepped-none mono_frame c.loop-left.left c.loop-left.last c.loop-left-test.false) ∙ c.loop-left.invariant.0.same in
+    let l = c.loop in
+    let z = c.loop-test.false in
+    let e = sym (stepped-none mono_frame c.args.count l.counter l.last z) ∙ l.invariant.0.same in
     record {
-      laid = going_end mono_frame frame_text c.loop-left-test.false c.loop-left.invariant.0;
+      laid = going_end mono_frame frame_text z l.invariant.0;
       next_bound = omega arith;
-      made = record { same = ap (λ (s : VoiceStep). s.voice) e; valid = c.loop-left.invariant.1 };
+      made = rw (← e) (record { same = refl; valid = l.invariant.1 });
     }

@@ -10,13 +10,13 @@ left : (s : Start) → s.args.self.samples_left ≤ forever
 left s = omega arith
 
 pub fill_wave-phase-requires : goal.fill_wave-phase-requires
-fill_wave-phase-requires c = omega (arith, c.given_of-given.ensures, given-most c.args.self.samples_left c.args.len, c.requires.fact_1)
+fill_wave-phase-requires c = omega (arith, c.given_of-given.ensures, given-most c.args.self.samples_left c.args.len, c.requires.few)
 
 pub returns : goal.returns
 returns c =
     let v = c.args.self in
     let full : length c.args.out.now ≡ 256 = search rules in
-    let b = block (tone-counted v) c.args.len v.phase v.samples_left (omega (arith, c.requires.fact_1))
-    (ap (tone_at v v.phase v.samples_left) c.requires.fact_2) (left (goal.at.returns c).Start) (omega (arith, c.requires.fact_1))
+    let b = block (tone-counted v) c.args.len v.phase v.samples_left (omega (arith, c.requires.few))
+    (ap (tone_at v v.phase v.samples_left) c.requires.sounds) (left (goal.at.returns c).Start) (omega (arith, c.requires.few))
     c.given_of-given.ensures c.less.ensures c.fill_wave-phase.ensures in
     record { voice = b.same; given = b.given }

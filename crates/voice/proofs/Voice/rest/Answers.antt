@@ -18,5 +18,5 @@ returns c =
     let n = min c.args.len 256 in
     let h : 0 < n = omega (arith, c.if-len-eq0.false) in
     made
-    (rw (c.keep-next.ensures, c.is_active.ensures, c.levels-adsr.ensures.made.same, ← rested-at v.source v.adsr n h) (sym (voice-ticks n v)))
+    (rw (c.keep-source.ensures, c.is_active.ensures, c.levels-adsr.ensures.made.same, ← rested-at v.source v.adsr n h) (sym (voice-ticks n v)))
     (valid-ticks n v c.requires)

@@ -13,10 +13,10 @@ returns-then-len-eq0 c =
     rw e (empty_block c.args.whole c.args.self c.args.samples.now c.requires)
 
 pub shape-requires : goal.shape-requires
-shape-requires c = omega (arith, block-short c.fill-f.ensures)
+shape-requires c = omega (arith, block-short c.fill-filled.ensures)
 
 pub lasting-requires : goal.lasting-requires
-lasting-requires c = omega (arith, block-short c.fill-f.ensures)
+lasting-requires c = omega (arith, block-short c.fill-filled.ensures)
 
 pub returns : goal.returns
 returns c =
@@ -24,5 +24,5 @@ returns c =
     let n = min c.args.len 256 in
     let k : 0 < n = omega (arith, c.if-len-eq0.false) in
     rw c.shape.ensures
-    (voice-block c.args.whole v c.fill-f.ensures _ c.requires k c.levels-adsr.ensures.made.same
-    (rw (c.keep-next.ensures, c.lasting.ensures, c.is_active.ensures, c.block_len-n.ensures)) c.levels-adsr.ensures.out_after)
+    (voice-block c.args.whole v c.fill-filled.ensures _ c.requires k c.levels-adsr.ensures.made.same
+    (rw (c.keep-source.ensures, c.lasting.ensures, c.is_active.ensures, c.block_len-n.ensures)) c.levels-adsr.ensures.out_after)

@@ -4,9 +4,6 @@ use Rattle.voice.specs.declared.source.VoiceSource.TheVariants as S
 use Rattle.voice.proofs.Requests.{idle-inactive, quiet-block, tone-block, blep-block, fm-block}
 use Rattle.voice.proofs.source.VoiceSource.fill.Goals as goal
 
-pub fill-f-requires-in-PolyBlep : goal.fill-f-requires-in-PolyBlep
-fill-f-requires-in-PolyBlep c = rw c.in-PolyBlep.is at c.requires
-
 pub returns-in-Idle : goal.returns-in-Idle
 returns-in-Idle c = rw c.in-Idle.is (quiet-block (min c.args.len 256) S.Idle _ idle-inactive)
 

@@ -1,7 +1,0 @@
--- `exports::plays::sounding` meets its contract.
-use Rattle.exports.proofs.plays.sounding.Goals as goal
-
-pub returns : goal.returns
-returns c =
-    let p = c.with_polyblep.ensures in
-    record { same = rw (p.same, c.play_all-played.ensures.same); valid = p.valid }

@@ -1,0 +1,3 @@
+-- What the proofs here share.
+--     Bytes   a flag as a byte
+mod Bytes

@@ -64,7 +64,7 @@ module _ (m : Mixer) (priority : ℕ) where
   allocated-none h p = rw (by-policy m.stealing_policy (voices_of m) priority, h, p)
 
 -- ---- a voice that is allocated is there
-place-some : (o : Option ℕ) (i : ℕ) → place_of o ≡ value i → o ≡ some i
+pub place-some : (o : Option ℕ) (i : ℕ) → place_of o ≡ value i → o ≡ some i
 place-some none i e = let z : ◌≡◌ {A = ℕ} 0 1 = cc in absurd (omega arith)
 place-some (some j) i e = let h : j ≡ i = cc in ap some h
 

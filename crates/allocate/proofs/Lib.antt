@@ -5,3 +5,4 @@
 pub mod Choice
 pub mod Keyed
 pub mod Rekeyed
+mod Searches

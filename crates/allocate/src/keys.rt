@@ -1,13 +1,14 @@
 // The allocation as one search over numbers, for a caller that plays many requests: a key for each voice, kept beside the voices.
 ghost use Rattle.std.specs.Prelude.{◌≡◌, min, ◌<◌, length, take, true, map};
 ghost use Rattle.allocate.specs.Allocation.{told_place};
-ghost use Rattle.allocate.specs.Keys.{age_of, key_of, keys_of, rank_in, bound_of, lowest_key, limit_of, lowered, moved_keys, sounding_after, rekeyed};
+ghost use Rattle.allocate.specs.Keys.{age_of, key_of, keys_of, rank_in, bound_of, lowest_key, limit_of, lowered, sounding_after, rekeyed};
 
 use marks::Mark;
 use mixer::VoiceStealingPolicy;
 use voice::Voice;
 
-// By document 01 all voices are of one age.
+// By document 01 all voices are of one age. In this crate and above, `present` names one of two boxes; the definitions of both take the same Bool, and an
+// enum would say no more.
 pub fn age(present: bool, rank: u8) -> u8
     ensures { result ≡ age_of present rank }
 {
@@ -27,11 +28,9 @@ pub fn key(v: Voice, age: u8) -> u16
 pub fn keys_of(voices: [Voice; 16], marks: [Mark; 16], present: bool) -> [u16; 16]
     ensures { result ≡ keys_of present voices marks }
 {
-    let mut keys: [u16; 16] = [0; 16];
-    for i in 0..16 {
-        let v = voices[i];
-        let k = marks[i];
-        keys[i] = key(v, age(present, k.rank));
+    let mut keys = [0u16; 16];
+    for (i, v) in voices.iter().enumerate() {
+        keys[i] = key(*v, age(present, marks[i].rank));
     }
     keys
 }
@@ -43,7 +42,7 @@ pub fn rank(key: u16) -> u8
     ((key % 32 + 255) % 256) as u8
 }
 
-// A voice is given where its key is below this.
+// A voice is given where its key is below this: 1 is no kind, but above the key of an inaudible voice alone.
 pub fn bound(policy: VoiceStealingPolicy, priority: u8) -> u16
     ensures { result ≡ bound_of policy priority }
 {
@@ -53,23 +52,14 @@ pub fn bound(policy: VoiceStealingPolicy, priority: u8) -> u16
     }
 }
 
-// How many of the keys are among the first n.
-fn fewer(n: usize, len: usize) -> usize
-    ensures { result ≡ min n len }
-{
-    if n < len { n } else { len }
-}
-
 pub fn lowest(keys: &[u16], n: usize, bound: u16) -> Option<usize>
     ensures { told_place result ≡ lowest_key (take n keys.now) bound }
 {
-    let end = fewer(n, keys.len());
     let mut best = None;
     let mut low = bound;
-    for i in 0..end {
-        let r = keys[i];
-        if r < low {
-            low = r;
+    for (i, r) in keys[..n.min(keys.len())].iter().enumerate() {
+        if *r < low {
+            low = *r;
             best = Some(i);
         }
     }
@@ -93,18 +83,8 @@ fn lower(keys: &mut [u16; 16], limit: u16)
     requires { length keys.old ≡ 16 }
     ensures { keys.new ≡ map (lowered limit) keys.old }
 {
-    for i in 0..16 {
-        keys[i] = lowered_key(limit, keys[i]);
-    }
-}
-
-fn move_down(keys: &mut [u16; 16], i: usize, present: bool)
-    requires { (i < 16) × (length keys.old ≡ 16) }
-    ensures { keys.new ≡ moved_keys present i keys.old }
-{
-    if present {
-        let limit = limit(keys[i]);
-        lower(keys, limit);
+    for key in keys.iter_mut() {
+        *key = lowered_key(limit, *key);
     }
 }
 
@@ -126,6 +106,9 @@ pub fn rekey(keys: &mut [u16; 16], i: usize, priority: u8, above: u8, present: b
     requires { (i < 16) × (length keys.old ≡ 16) }
     ensures { keys.new ≡ rekeyed present i priority above keys.old }
 {
-    move_down(keys, i, present);
+    if present {
+        let limit = limit(keys[i]);
+        lower(keys, limit);
+    }
     keys[i] = 32 * (priority as u16) + (above as u16);
 }

@@ -1,8 +1,8 @@
 // Which voice a request gets.
 #![tactic(auto)]
 
-ghost use Rattle.std.specs.Prelude.{◌≡◌, ◌≤◌, take};
-ghost use Rattle.ranking.specs.Rule.{first_free, first_lowest};
+ghost use Rattle.std.specs.Prelude.{◌≡◌, not, position};
+ghost use Rattle.ranking.specs.Rule.{first_lowest};
 ghost use Rattle.voice.specs.Voices.{audible};
 ghost use Rattle.mixer.specs.Mixers.{Valid};
 ghost use Rattle.allocate.specs.Allocation.{place_of, told_place, priority_of, allocated, allocated_oldest};
@@ -14,27 +14,18 @@ use voice::Voice;
 
 pub mod keys;
 
-fn first_free(voices: [Voice; 16], n: usize) -> Option<usize>
-    requires { n ≤ 16 }
-    ensures { told_place result ≡ place_of (first_free audible (take n voices)) }
+fn first_free(voices: &[Voice]) -> Option<usize>
+    ensures { result ≡ position (λ v. not (audible v)) voices.now }
 {
-    for i in 0..n {
-        let v = voices[i];
-        if !v.is_audible() {
-            return Some(i);
-        }
-    }
-    None
+    voices.iter().position(|v| !v.is_audible())
 }
 
-fn first_lowest(voices: [Voice; 16], n: usize, priority: u8) -> Option<usize>
-    requires { n ≤ 16 }
-    ensures { told_place result ≡ place_of (first_lowest priority_of (take n voices) priority) }
+fn first_lowest(voices: &[Voice], priority: u8) -> Option<usize>
+    ensures { told_place result ≡ place_of (first_lowest priority_of voices.now priority) }
 {
     let mut best = None;
     let mut lowest = priority;
-    for i in 0..n {
-        let v = voices[i];
+    for (i, v) in voices.iter().enumerate() {
         if v.priority < lowest {
             lowest = v.priority;
             best = Some(i);
@@ -47,15 +38,12 @@ pub fn allocate_voice(m: Mixer, priority: u8) -> Option<usize>
     requires { Valid m }
     ensures { told_place result ≡ allocated m priority }
 {
-    let voices = m.voices;
-    let n = m.n;
-    let free = first_free(voices, n);
-    let policy = m.stealing_policy;
-    match free {
+    let voices = &m.voices[..m.n];
+    match first_free(voices) {
         Some(i) => Some(i),
-        None => match policy {
+        None => match m.stealing_policy {
             VoiceStealingPolicy::FreeChannelOnly => None,
-            VoiceStealingPolicy::LowestPriorityOldest => first_lowest(voices, n, priority),
+            VoiceStealingPolicy::LowestPriorityOldest => first_lowest(voices, priority),
         },
     }
 }

@@ -34,7 +34,7 @@ pub struct EffectEntry {
 pub struct SoundBank {
     sample_rate_hz: u32,
     effect_count: u16,
-    len: usize,
+    len: usize, // the bytes are lent to each call, since there is no heap to keep them in
 }
 
 impl SoundBank {
@@ -134,6 +134,7 @@ pub fn entry(bank: Option<SoundBank>, bytes: &[u8], index: usize) -> Result<Effe
     read_at(bytes, index)
 }
 
+// No `for`: what is left is halved, and may end before.
 // The first place at which the halving ends, by a hit or by a kind byte above 5. It reads three bytes of a place, and the caller
 // the whole entry.
 #[tactic(auto, using(crate::proofs::Steps::halving_steps))]
@@ -165,7 +166,8 @@ fn halve(bytes: &[u8], count: usize, id: u16) -> Option<usize>
     None
 }
 
-// The same over every entry from 0.
+// The same over every entry from 0. By index: an entry is sixteen bytes among others, and its place is what is asked for; `find` would take a closure
+// with a `requires` of its own on the place.
 #[tactic(auto, using(crate::proofs::Steps::scanning_steps))]
 fn scan(bytes: &[u8], count: usize, id: u16) -> Option<usize>
     requires { place_of count ≤ length bytes.now }
@@ -197,6 +199,7 @@ pub fn find_by_id(bank: Option<SoundBank>, bytes: &[u8], id: u16) -> Result<Effe
     read_at(bytes, i)
 }
 
+// `parted` is the rule of a box, which the crates above hand on as it is; an enum would be tested in the same place.
 // Whether a payload lies in a bank of so many bytes; if not, and `parted`, which end of it is wrong.
 fn payload_in(size: usize, offset: u32, len: u32, parted: bool) -> Result<(), AudioError>
     ensures { told result ≡ payload_number parted (fails_in size offset len) }

@@ -49,14 +49,15 @@ pub fn put_entries(entries: [NewEntry; 64], places: &[u8; 64], count: usize, out
 {
     // `as usize` here and below, not `usize::from`: tried, and each use in both proofs needs the call's clause first, so it is no plainer.
     let mut offset = 10 + 16 * count;
-    for k in 0..count {
-        let e = entries[places[k] as usize];
+    for (k, &i) in places[..count].iter().enumerate() {
+        let e = entries[i as usize];
         let bytes = entry_bytes(e, offset);
         put(out, 10 + 16 * k, &bytes);
         offset += e.len as usize;
     }
 }
 
+// An array and a count, as `write_bank` has them.
 pub fn put_payloads(
     places: &[u8; 64],
     starts: &[usize; 65],
@@ -69,8 +70,8 @@ pub fn put_payloads(
     ensures { out.new ≡ sets out.old (place_of count) (slices_of starts.now payloads.now (take count places.now)) }
 {
     let mut at = 10 + 16 * count;
-    for k in 0..count {
-        let i = places[k] as usize;
+    for &place in &places[..count] {
+        let i = place as usize;
         let start = starts[i];
         let end = starts[i + 1];
         put(out, at, &payloads[start..end]);

@@ -19,8 +19,8 @@ pub fn starts_of(entries: [NewEntry; 64]) -> [usize; 65]
 {
     let mut starts = [0usize; 65];
     let mut next: usize = 0;
-    for i in 0..64 {
-        next += entries[i].len as usize;
+    for (i, e) in entries.iter().enumerate() {
+        next += e.len as usize;
         starts[i + 1] = next;
     }
     starts

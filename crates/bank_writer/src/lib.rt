@@ -22,7 +22,7 @@ pub const GIVEN_SIZE: usize = 13;
 #[derive(Clone, Copy, Debug, Default, PartialEq, Eq)]
 pub struct NewEntry {
     pub id: u16,
-    pub kind: u8,
+    pub kind: u8, // a byte, not an EffectKind: one above 5 is this writer's to refuse
     pub flags: u8,
     pub default_gain_q8: u8,
     pub param0: u16,

@@ -5,12 +5,12 @@ use mathlib.Core.Path.{◌≡◌, refl, sym, ap, ◌∙◌}
 use mathlib.Core.Logic.{◌⊎◌, inl, inr}
 use native.Mathlib.Decide.{dec_le}
 use mathlib.Core.List.{List, ◌++◌}
-use lib.ListN.{length, get_or, drop, set, length-set, length-append, length-drop, get_or-append}
-use lib.Seq.{get_or-set_same, get_or-set_other, ext_get_or, get_or-drop, get_or-append-add}
+use lib.ListN.{length, get_or, take, drop, set, length-set, length-append, length-drop, get_or-append}
+use lib.Seq.{get_or-set_same, get_or-set_other, ext_get_or, get_or-drop, get_or-append-add, get_or-append_right, get_or-take, length-take-le}
 use lib.IntN.{ℤ, pos, nat_abs, ◌+ℤ◌}
-use native.Mathlib.Numerals.{add-one}
+use Rattle.std.proofs.lemmas.List.{set-append_left}
 use Rattle.laws.proofs.Signed.{add≤}
-use Rattle.block.specs.Cells.{Written, Within, AtMost, Scaled, Added, Tallied}
+use Rattle.block.specs.Cells.{Written, Within, Scaled, Added}
 
 pub le-or-gt : (a b : ℕ) → (a ≤ b) ⊎ (b < a)
 le-or-gt a b = go (dec_le a b)
@@ -51,6 +51,25 @@ module _ {A : Type 0} {d : A} {f : ℕ → A} where
             ];
         before = λ j l. w.before j (omega arith) ∙ v.before j l;
         behind = λ j l. w.behind j l ∙ v.behind j (omega arith);
+      }
+
+  -- the cells of a part, as a whole with the rest
+  pub written_part : {n : ℕ} {was is : List A} (a k : ℕ) → k ≡ n → a + n ≤ length was → Written d f 0 n (take n (drop a was)) is
+      → Written d (λ j. f (j - a)) a (a + n) was (take a was ++ (is ++ drop k (drop a was)))
+  written_part {n} {was} {is} a k e h w =
+      let t : length (take a was) ≡ a = length-take-le a was (omega arith) in
+      let l : length is ≡ n = w.size ∙ length-take-le n (drop a was) (omega (arith, length-drop a was)) in
+      let rest = drop k (drop a was) in
+      record {
+        size = rw (length-append, length-append, length-drop, length-drop) (omega arith);
+        there = λ j p m.
+            get_or-append_right (take a was) (is ++ rest) j d (omega arith)
+            ∙ rw t (get_or-append is rest d (j - a) (omega arith) ∙ w.there (j - a) (omega arith) (omega arith));
+        before = λ j p. get_or-append (take a was) (is ++ rest) d j (omega arith) ∙ get_or-take a was j d p;
+        behind = λ j p.
+            let q : a + (k + (j - a - length is)) ≡ j = omega arith in
+            get_or-append_right (take a was) (is ++ rest) j d (omega arith)
+            ∙ rw t (get_or-append_right is rest (j - a) d (omega arith) ∙ rw (get_or-drop, get_or-drop, q));
       }
 
   -- the whole, as a list before the rest
@@ -100,26 +119,9 @@ added_next {samples} {gain} {k} {was} {is} r v a l h e s =
           ];
     }
 
-pub tallied-none : (l : List ℕ) → Tallied 0 l l
-tallied-none l = record { cells = written_none (omega arith); grown = λ b h j. omega (arith, h j) }
-
-pub tallied-old : {k : ℕ} {was is : List ℕ} {b : ℕ} → Tallied k was is → AtMost b was → get_or is k 0 ≤ b
-tallied-old {k = k} a h = rw (a.cells.behind k (omega arith)) (h k)
-
-pub tallied-next : {k : ℕ} {was is : List ℕ} → Tallied k was is → length was ≡ 256 → k < 256 → Tallied (k + 1) was (set is k (get_or is k 0 + 1))
-tallied-next {k} {was} {is} a l h =
-    let o : get_or is k 0 ≡ get_or was k 0 = a.cells.behind k (omega arith) in
-    let there : k < length is = omega (arith, a.cells.size) in
-    let v = get_or is k 0 + 1 in
-    record {
-      cells = written_next k (k + 1) v a.cells (omega arith) refl (omega arith) (omega arith) (rw (o, add-one));
-      grown = λ b w j.
-          elim (le-or-gt k j) [
-            | inl p ↦
-                (elim (le-or-gt (suc k) j) [
-                  | inl q ↦ rw (get_or-set_other is k j v 0 (λ z. omega arith)) (a.grown b w j)
-                  | inr q ↦ (let z : j ≡ k = omega arith in rw (z, get_or-set_same is k v 0 there) (omega (arith, w k)))
-                ])
-            | inr p ↦ rw (get_or-set_other is k j v 0 (λ z. omega arith)) (a.grown b w j)
-          ];
-    }
+-- the same where the cells that are added to are the front of a whole
+pub added_front : {samples : List ℤ} {gain k : ℕ} {was : List ℤ} (items rest : List ℤ) (r v : ℤ) → Added samples gain k was (items ++ rest) → length was ≡ 256 → k < 256
+    → k < length items → v ≡ get_or items k (pos 0) +ℤ r → Scaled (get_or samples k (pos 0)) gain r → Added samples gain (k + 1) was (set items k v ++ rest)
+added_front {samples} {gain} {k} {was} items rest r v a l h i e s =
+    let o : get_or (items ++ rest) k (pos 0) ≡ get_or items k (pos 0) = get_or-append items rest (pos 0) k i in
+    rw (← set-append_left items rest k v i) (added_next r v a l h (rw o e) s)

@@ -21,14 +21,13 @@ pub fn fade_frames(active: bool, t: u8, step: u8, len: usize) -> usize
             return 0;
         }
         let most = ((254 - t) / step) as usize;
-        if most < len {
-            return most;
-        }
+        return most.min(len);
     }
     len
 }
 
-// Voice 1's as it is before the frame's tick, where the call that began the fade has voice 0 sound on; else an idle one.
+// Voice 1's as it is before the frame's tick, where the call that began the fade has voice 0 sound on; else an idle one. `on` is the state's own field.
+#[tactic(auto, unfolding(frame::specs::Fades::envelope_after))]
 fn envelope_after(old: Voice, new: Voice, on: bool) -> Adsr
     requires { S.Valid old }
     ensures { result ≡ envelope_after on old new }
@@ -40,6 +39,7 @@ fn envelope_after(old: Voice, new: Voice, on: bool) -> Adsr
     stopped.adsr
 }
 
+#[tactic(auto, unfolding(frame::specs::Fades::taken_over))]
 fn taken_over(adsr: Adsr, old: Voice, new: Voice) -> Voice
     ensures { result ≡ taken_over adsr old new }
 {
@@ -104,6 +104,7 @@ pub fn rested(m: Mixer, len: usize) -> Mixer
 {
     let n = m.n;
     let mut out = m;
+    // By place, as the definition of the others counts: as a lent part it would have to be stated anew.
     for i in 2..n {
         let v = out.voices[i];
         out.voices[i] = v.rest(len);

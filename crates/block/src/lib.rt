@@ -12,8 +12,9 @@ use mixer::Mixer;
 mod ends;
 mod passes;
 
-// Lent as a slice, a buffer tells the proof its length, which its type fixes.
-fn whole(cells: &[i8]) {}
+// The loops over voices go by place: a turn reads and writes voice i and reads the mark beside it, and a proof knows nothing of what is written behind a
+// zip. `sides`, stereo or mono, is a Bool as in the definition of a part, a stretch and a block, so that an enum would say no more.
+// `at` and `len` stand beside a buffer, and no part is lent: contracts say of the whole buffer which cells are written and that the others stay.
 
 // len frames outside a fade, written from `at` on.
 fn plain(m: Mixer, marks: Marks, at: usize, len: usize, out: &mut [i8; 256]) -> Mixer
@@ -174,8 +175,6 @@ pub fn sound(
     requires { ValidInside p }
     ensures { Block sides p (min len 256) left.old right.old result left.new right.new }
 {
-    whole(&*left);
-    whole(&*right);
     let n = tone::block_len(len);
     let m = p.mixer;
     let f = ends::fade_frames(m.crossfade_active, m.crossfade_t_q8, m.crossfade_step_q8, n);

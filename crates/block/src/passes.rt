@@ -1,7 +1,7 @@
 // Passes over the cells of a block.
 ghost use Rattle.std.specs.Prelude.{◌≡◌, ◌+◌, ◌*◌, ◌≤◌, ◌<◌, pos, length};
 ghost use Rattle.frame.specs.Frames.{crossed};
-ghost use Rattle.block.specs.Cells.{Written, Within, AtMost, Scaled, Added, Tallied, mean_of, leveled_by, mean_at, answer_of, faded_at, Steady};
+ghost use Rattle.block.specs.Cells.{Written, Within, AtMost, Scaled, Added, Tallied, mean_of, leveled_by, mean_at, faded_at, Steady};
 
 // A gain of 256 leaves the sample as it is, so that mono and stereo add alike.
 fn scaled(sample: i8, gain: u16) -> i16
@@ -11,13 +11,13 @@ fn scaled(sample: i8, gain: u16) -> i16
     ((sample as i16) * (gain as i16)) >> 8
 }
 
+// `n` and `len` stand beside the buffers: a voice's contract says of its whole buffer what it gave, and which cells are not its own.
 pub fn add(samples: &[i8; 256], gain: u16, n: usize, sums: &mut [i16; 256])
     requires { (gain ≤ 256) × (n ≤ 256) × (length sums.old ≡ 256) × Within 1920 sums.old }
     ensures { Added samples.now gain n sums.old sums.new }
 {
-    for k in 0..n {
-        let old = sums[k];
-        sums[k] = old + scaled(samples[k], gain);
+    for (k, sum) in sums[..n].iter_mut().enumerate() {
+        *sum += scaled(samples[k], gain);
     }
 }
 
@@ -25,9 +25,8 @@ pub fn tally(n: usize, counts: &mut [u8; 256])
     requires { (n ≤ 256) × (length counts.old ≡ 256) × AtMost 15 counts.old }
     ensures { Tallied n counts.old counts.new }
 {
-    for k in 0..n {
-        let old = counts[k];
-        counts[k] = old + 1;
+    for count in counts[..n].iter_mut() {
+        *count += 1;
     }
 }
 
@@ -61,25 +60,22 @@ pub fn write_means(
     requires { (at + len ≤ 256) × (length out.old ≡ 256) × (gain ≤ 256) }
     ensures { Written (pos 0) (mean_at gain sums.now counts.now at) at (at + len) out.old out.new }
 {
-    for k in 0..len {
-        out[at + k] = leveled(mean(sums[k], counts[k]), gain);
+    for (k, cell) in out[at..at + len].iter_mut().enumerate() {
+        *cell = leveled(mean(sums[k], counts[k]), gain);
     }
 }
 
-// The two samples crossed at t, or the one that was given.
-fn crossed(a: i8, has_a: bool, b: i8, has_b: bool, t: u8) -> i32
-    ensures { result ≡ crossed t (answer_of has_a a) (answer_of has_b b) }
+// The two samples crossed at t, or the one that was given; the level 0 where none was.
+#[tactic(auto, unfolding(frame::specs::Frames::crossed))]
+fn crossed(a: Option<i8>, b: Option<i8>, t: u8) -> i32
+    ensures { result ≡ crossed t a b }
 {
-    if has_a {
-        if has_b {
-            return fixed::mix_crossfade(a, b, t) as i32;
-        }
-        return a as i32;
+    match (a, b) {
+        (Some(a), Some(b)) => fixed::mix_crossfade(a, b, t) as i32,
+        (Some(a), None) => a as i32,
+        (None, Some(b)) => b as i32,
+        (None, None) => 0,
     }
-    if has_b {
-        return b as i32;
-    }
-    0
 }
 
 // The frames of a fade that goes on after them.
@@ -98,8 +94,10 @@ pub fn write_faded(
     ensures { Written (pos 0) (faded_at gain t step first.now n second.now n2) 0 len out.old out.new }
 {
     let mut mix = t;
-    for k in 0..len {
-        mix = mix + step;
-        out[k] = leveled(crossed(first[k], k < n, second[k], k < n2, mix), gain);
+    for (k, cell) in out[..len].iter_mut().enumerate() {
+        mix += step;
+        let a = (k < n).then_some(first[k]);
+        let b = (k < n2).then_some(second[k]);
+        *cell = leveled(crossed(a, b, mix), gain);
     }
 }

@@ -3,10 +3,9 @@ use Prim.Native.Nat.{ℕ, ◌+◌, ◌*◌, ◌-◌, ◌≤◌, ◌<◌, min}
 use native.Mathlib.Omega.{arith}
 use mathlib.Core.Path.{◌≡◌, refl, ◌∙◌, ap}
 use mathlib.Core.Bool.{Bool, false}
-use mathlib.Core.List.{List, [], ◌∷◌, map}
+use mathlib.Core.List.{List, [], ◌∷◌, ◌++◌, map}
 use lib.IntN.{ℤ}
-use lib.ListN.{length, take}
-use lib.Seq.{sets}
+use lib.ListN.{length, take, drop}
 use Rattle.laws.specs.Made.{Made}
 use Rattle.laws.specs.Runs.{after, given}
 use Rattle.block.specs.Blocks.{ValidInside, Block}
@@ -21,9 +20,9 @@ use Rattle.buffers.specs.declared.Level.{Level}
 use Rattle.buffers.specs.declared.Level.TheVariants.{Duty, U12, U16}
 use Rattle.buffers.specs.declared.Shape.{Shape}
 use Rattle.buffers.specs.declared.Shape.TheVariants.{Once, Doubled, Sides}
-use Rattle.buffers.proofs.Cells.{span_small, span-some}
+use Rattle.buffers.proofs.Putting.{span_small, span-some}
 use Rattle.buffers.proofs.Duties.{mapper_at, level-period, state-is, cells_are}
-use Rattle.buffers.proofs.Fill.{Filling, filling-start, filling-long, filling-turn, filling-end, map-given}
+use Rattle.buffers.proofs.Blocks.{Filling, filling-start, filling-long, filling-turn, filling-end, map-given}
 use Rattle.buffers.proofs.Rows.{pairs-given, block-cells, made-few}
 use Rattle.buffers.specs.Blocks.{Span, Laid, laid, mapper_over, levels_over}
 
@@ -82,19 +81,20 @@ module _ {A : Type 0} (f : ℤ → A) (shape : Shape) (m : Present) (out₀ : Li
       → length out₀ - (at + k) < length out₀ - at
   shape-less {n = n} {k} h l z = omega (arith, (shape-fits h l).0, span-some shape n k l.count z)
 
-  pub shape-turn : {sides : Bool} {s t : Present} {at n k j : ℕ} {out is : List A} {lw rr left right samples : List ℤ} → sides ≡ sides_of shape → Shaping s at n out
-      → Block sides s (min n 256) lw rr t left right → Laid shape n k left right samples → is ≡ sets out at (map f (take k samples)) → Span shape (length out₀ - (at + k)) j
-      → Shaping t (at + k) j is
-  shape-turn {s = s} {n = n} e h block l laid next =
+  pub shape-turn : {sides : Bool} {s t : Present} {at n k j : ℕ} {out cells : List A} {lw rr left right samples : List ℤ} → sides ≡ sides_of shape → Shaping s at n out
+      → Block sides s (min n 256) lw rr t left right → Laid shape n k left right samples → cells ≡ map f (take k samples) → Span shape (length out₀ - (at + k)) j
+      → Shaping t (at + k) j (take at out ++ (cells ++ drop (at + k - at) (drop at out)))
+  shape-turn {s = s} {at = at} {n = n} e h block l laid next =
       let b = rw e at block in
       record {
         filling = filling-turn ValidInside (step_by shape) (λ m. map f (raw_by shape m)) (wide shape) m out₀ (shape-wide f shape) n h.filling (block-state shape n h.span.few b)
-            (ap (map f) (l.gave ∙ block-laid shape n h.span.few b) ∙ map-given f (step_by shape) (raw_by shape) n s) l.count (shape-fits h l).0 laid;
+            (laid ∙ ap (map f) (l.gave ∙ block-laid shape n h.span.few b) ∙ map-given f (step_by shape) (raw_by shape) n s) (ap (λ (i : ℕ). at + i) l.count) (shape-fits h l).0;
         span = next;
       }
 
-  pub shape-end : {s : Present} {at n : ℕ} {out : List A} → Shaping s at n out → n ≡ 0 → FillsFrom f shape m out₀ (record { state = s; filled = at }) out
-  shape-end {s} {at} h e =
+  pub shape-end : {s : Present} {at n : ℕ} {out : List A} → Shaping s at n out → n ≤ 0 → FillsFrom f shape m out₀ (record { state = s; filled = at }) out
+  shape-end {s} {at} {n} h less =
+      let e : n ≡ 0 = omega arith in
       let g = h.filling in
       let c = shape-counts shape g.frames at (length out₀) g.count g.fits (h.span.none e) in
       record { state = rw c.0 at g.state; count = c.1; content = rw (c.0, c.1) at (filling-end ValidInside (step_by shape) (λ m. map f (raw_by shape m)) (wide shape) m out₀ (shape-wide f shape) g) }
@@ -115,18 +115,23 @@ module _ (level : Level) (m : Present) (out₀ : List ℕ) where
   abbrev pub Levelling : Present → ℕ → List ℕ → Type 0
   Levelling s at out = Filling ValidInside (step_at level) (cell_at level) 1 m out₀ s at out
 
-  pub level-turn : {s x : Present} {at : ℕ} {out is : List ℕ} {lw rr left right : List ℤ} (n period : ℕ) (q : PwmMapper) → period ≡ m.mixer.config.pwm_period → Levelling s at out → n ≤ 256
+  pub level-turn : {s x : Present} {at : ℕ} {out cells : List ℕ} {lw rr left right : List ℤ} (n period : ℕ) (q : PwmMapper) → period ≡ m.mixer.config.pwm_period → Levelling s at out → n ≤ 256
       → at + n ≤ length out₀ → Block false s (min n 256) lw rr x left right → Made ValidMapper (mapper_over level period x.mixer.mapper (take n left)) q
-      → is ≡ sets out at (levels_over level period x.mixer.mapper (take n left)) → Levelling (mapper_at x q) (at + n) is
+      → cells ≡ levels_over level period x.mixer.mapper (take n left) → Levelling (mapper_at x q) (at + n) (take at out ++ (cells ++ drop (at + n - at) (drop at out)))
   level-turn {s} {x} {left = left} n period q per h few fits b made laid =
       let state = made-few mono_next s n few b.state in
       let p : period ≡ s.mixer.config.pwm_period = rw (h.state.same, level-period level h.frames m) per in
-      let cells = block-cells mono_next pcm_of n s _ few b.left in
+      let heard = block-cells mono_next pcm_of n s _ few b.left in
       filling-turn ValidInside (step_at level) (cell_at level) 1 m out₀ (level-wide level) n h
-      (record { same = state-is level s x n period (take n left) state.same p cells q made.same; valid = valid-mapper q made.valid state.valid })
-      (cells_are level s x n period (take n left) state.same p cells) (omega arith) fits laid
+      (record { same = state-is level s x n period (take n left) state.same p heard q made.same; valid = valid-mapper q made.valid state.valid })
+      (laid ∙ cells_are level s x n period (take n left) state.same p heard) (omega arith) fits
 
-  pub level-end : {s : Present} {at : ℕ} {out : List ℕ} → Levelling s at out → at ≡ length out₀ → LevelsFrom level m out₀ (record { state = s; filled = at }) out
-  level-end h e =
+  pub level-end : {s : Present} {at : ℕ} {out : List ℕ} → Levelling s at out → length out₀ ≤ at → LevelsFrom level m out₀ (record { state = s; filled = at }) out
+  level-end {at = at} h less =
+      let e : at ≡ length out₀ = omega (arith, h.fits) in
       let n : h.frames ≡ length out₀ = omega (arith, h.count) in
       record { state = rw n at h.state; count = e; content = rw (n, e) at (filling-end ValidInside (step_at level) (cell_at level) 1 m out₀ (level-wide level) h) }
+
+pub ruleset shape_blocks = (shape-start, shape-fits, shape-less)
+
+pub ruleset level_blocks = (filling-start, filling-long, level-turn)

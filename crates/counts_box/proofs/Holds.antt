@@ -140,7 +140,7 @@ module _ {State : Type 0} (b : Player State) (laws : Lawful b) (s : State) (vali
       }
 
 pub counts-tried : CountsTried
-counts-tried = record { each = λ s v ranks silent. tried-all player lawful s v.inside.present.inside ranks silent }
+counts-tried = record { each = λ s v ranks silent. tried-all player lawful s v.present.inside ranks silent }
 
 -- one request for each priority, asked as often as the list has it
 pub same-each : {State : Type 0} (b : Player State) (s : State) (bytes : List ℕ) (k : ℕ) (request : ℕ → Request)

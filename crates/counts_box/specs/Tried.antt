@@ -3,13 +3,13 @@
 use Rattle.std.specs.Prelude.{ℕ, ◌≤◌, ◌<◌, ◌≡◌, Bool, true, false, not, List, map}
 use Rattle.counts.specs.Counts.{turned_away, counted_by, counted}
 use Rattle.counts.specs.declared.Counts.{Counts}
+use Rattle.entering.specs.Lined.{Valid}
+use Rattle.entering.specs.declared.Lined.{Lined}
 use Rattle.error.specs.Told.{value}
 use Rattle.laws.specs.Lists.{All}
 use Rattle.requests.specs.Players as R
 use Rattle.requests.specs.Players.{Player, Ranks}
 use Rattle.sounder.specs.Requests.{player}
-use Rattle.sounder.specs.Sounders.{ValidSounder}
-use Rattle.sounder.specs.declared.Sounder.{Sounder}
 use Rattle.start.specs.declared.Request.{Request}
 use Rattle.voice.specs.Voices.{audible}
 
@@ -43,4 +43,4 @@ module _ {State : Type 0} (b : Player State) where
 
 -- T-13's theorem, of every silent box of the present rules under LowestPriorityOldest
 pub record CountsTried : Type 0 where
-  pub each : (s : Sounder) → ValidSounder s → Ranks player s → Silent player s → Tried player s
+  pub each : (s : Lined) → Valid s → Ranks player s → Silent player s → Tried player s

@@ -10,47 +10,37 @@ use Rattle.frame.specs.Fades.{advanced}
 use Rattle.frame.specs.Frames.{old_marks}
 use Rattle.frame.specs.Lasting.{frames_left, SameFade, Step, frame, call, after_all, unbroken, Lasts}
 use Rattle.laws.specs.Runs.{after}
+use Rattle.mixer.specs.Mixers.{Valid}
+use Rattle.mixer.specs.declared.Mixer.{Mixer}
+use Rattle.play.specs.Fades.{faded}
 use Rattle.start.specs.declared.Request.{Request}
-use Rattle.steps.specs.Steps.{Frame, mono, duty, stereo, Call, play, tone, poly_blep, bank, pan, master_gain, stop, fade, look, called_mixer, ByRule}
+use Rattle.steps.specs.Steps.{Frame, mono, duty, stereo, Call, play, ByRule}
 use Rattle.steps.proofs.Calls.{same}
 use Rattle.frame.proofs.Fades.{mono-fade, stereo-fade}
 use Rattle.steps.proofs.Frames.{duty-fade}
 use Rattle.steps.proofs.Steps as S
-use Rattle.engine.specs.Engines.{ValidEngine, boxed}
 use Rattle.engine.specs.Requests.{player, played_all}
-use Rattle.engine.specs.Steps.{fading, frame_step, framed, called, stepper, box, FadeTakes}
-use Rattle.engine.specs.declared.AudioEngine.{AudioEngine}
+use Rattle.engine.specs.Steps.{framed, stepper, box, FadeTakes}
 
-advances : (f : Frame) (e : AudioEngine) → SameFade (framed f e).state (advanced e.state)
-advances mono e = mono-fade old_marks e.state
-advances duty e = duty-fade old_marks e.state
-advances stereo e = stereo-fade old_marks e.state
-
-calls : (c : Call) (e : AudioEngine) → SameFade (called c e).state (called_mixer c e.state)
-calls (play bytes r) e = same _
-calls (tone hz ms waveform) e = same _
-calls (poly_blep hz ms waveform) e = same _
-calls (bank rate count len) e = same _
-calls (pan i q) e = same _
-calls (master_gain gain) e = same _
-calls stop e = same _
-calls (fade bytes id ms adsr) e = same _
-calls look e = same _
+advances : (f : Frame) (m : Mixer) → SameFade (framed f m) (advanced m)
+advances mono m = mono-fade old_marks m
+advances duty m = duty-fade old_marks m
+advances stereo m = stereo-fade old_marks m
 
 by-rule : ByRule stepper
-by-rule = record { advances = advances; calls = calls }
+by-rule = record { advances = advances; calls = λ c m. same _ }
 
 -- ---- T-02
-pub fade-takes : (e : AudioEngine) (bytes : List ℕ) (id ms : ℕ) (adsr : AdsrSpec) → told (fading e bytes id ms adsr).outcome ≡ passed → FadeTakes e bytes id ms adsr
-fade-takes e bytes id ms adsr a = S.fade-takes stepper by-rule e bytes id ms adsr a
+pub fade-takes : (m : Mixer) (bytes : List ℕ) (id ms : ℕ) (adsr : AdsrSpec) → told (faded m bytes id ms adsr).outcome ≡ passed → FadeTakes m bytes id ms adsr
+fade-takes m bytes id ms adsr a = S.fade-takes stepper by-rule m bytes id ms adsr a
 
 -- of a fade under way, what is left of it
-pub fade-lasts : (e : AudioEngine) (ss : List (Step Frame Call)) → ValidEngine e → unbroken box ss e ≡ true → Lasts box (frames_left e.state) e ss
-fade-lasts e ss h u = S.fade-lasts box (S.lawful stepper by-rule) e ss h.inside u
+pub fade-lasts : (m : Mixer) (ss : List (Step Frame Call)) → Valid m → unbroken box ss m ≡ true → Lasts box (frames_left m) m ss
+fade-lasts m ss h u = S.fade-lasts box (S.lawful stepper by-rule) m ss h u
 
 -- ---- a buffer call is so many frames (`buffers/Buffers` Fills), a list of requests so many plays (`Requests` played_all)
-pub frame-run : (f : Frame) (n : ℕ) (e : AudioEngine) → after_all box (replicate n (frame f)) e ≡ boxed (after (frame_step f) n e.state)
-frame-run f n e = S.frame-run box boxed f (frame_step f) (λ m. refl) n e.state
+pub frame-run : (f : Frame) (n : ℕ) (m : Mixer) → after_all box (replicate n (frame f)) m ≡ after (framed f) n m
+frame-run f n m = S.frame-run box (λ m. m) f (framed f) (λ m. refl) n m
 
-pub play-run : (bytes : List ℕ) (rs : List Request) (e : AudioEngine) → after_all box (map (λ r. call (play bytes r)) rs) e ≡ played_all e bytes rs
-play-run bytes rs e = S.play-run box player play (λ bytes r e. refl) bytes rs e
+pub play-run : (bytes : List ℕ) (rs : List Request) (m : Mixer) → after_all box (map (λ r. call (play bytes r)) rs) m ≡ played_all m bytes rs
+play-run bytes rs m = S.play-run box player play (λ bytes r m. refl) bytes rs m

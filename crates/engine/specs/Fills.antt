@@ -1,8 +1,8 @@
--- The box around a buffer call of the parts. Assumes nothing.
+-- A buffer call's engine and count. Assumes nothing.
+use Rattle.std.specs.Prelude.{ℕ}
 use Rattle.buffers.specs.Buffers.{Done}
 use Rattle.mixer.specs.declared.Mixer.{Mixer}
-use Rattle.engine.specs.declared.fills.EngineFilled.{EngineFilled}
 
--- what was filled, out of its box
-abbrev pub filled_in : EngineFilled → Done Mixer
-filled_in r = record { state = r.engine.state; filled = r.filled }
+-- the engine after it, and how many cells were written
+abbrev pub filled_in : Mixer → ℕ → Done Mixer
+filled_in m n = record { state = m; filled = n }

@@ -20,6 +20,7 @@ pub struct Lined {
 }
 
 // Whether one of the N voices is inaudible.
+#[tactic(auto, unfolding(crate::specs::Entering::voice_free))]
 pub fn voice_free(p: Present) -> bool
     requires { M.Valid p }
     ensures { result ≡ voice_free p }
@@ -67,14 +68,12 @@ pub fn enter(s: Lined, bytes: &[u8]) -> Lined
     ensures { Made Valid (entered_in bytes.now s) result }
 {
     let line = s.line;
-    let count = line.count;
     let mut out = s;
-    for i in 0..count {
+    for w in &line.places[..line.count] {
         if !voice_free(out.present) {
             return out;
         }
-        let w = line.places[i];
-        out = tried(out, bytes, w);
+        out = tried(out, bytes, *w);
     }
     out
 }

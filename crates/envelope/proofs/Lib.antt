@@ -7,4 +7,3 @@ pub mod Levels
 pub mod Laws
 pub mod Ticks
 pub mod Rests
-mod Parts

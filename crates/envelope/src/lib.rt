@@ -22,6 +22,7 @@ pub struct AdsrSpec {
     pub release_ms: u16,
 }
 
+// Two presets, by the source's names: one function over a table would need a name for each again.
 impl AdsrSpec {
     pub fn click() -> AdsrSpec
         ensures { result ≡ click_spec }
@@ -113,6 +114,8 @@ fn next_level(level: u8, target: u8, count: u32, length: u32) -> u8
     }
 }
 
+// `Valid self` stays a fact of these contracts: voices hold an Adsr and go by value, and a Copy struct that holds a struct with a model is not
+// copied in a proof (tried with the PolyBLEP oscillator: the proof did not close). `Envelope` below, which is held by none, has the model.
 impl Adsr {
     pub fn new(spec: AdsrSpec, sample_rate_hz: u32) -> Adsr
         ensures { result ≡ idle_adsr spec sample_rate_hz }

@@ -61,6 +61,7 @@ pub(crate) struct Place {
 // The durations of the phases in milliseconds, on first.
 const PHASES: [u16; 6] = [500, 500, 500, 500, 500, 1500];
 
+// `phase < 6` stays a fact of these contracts: the definitions speak of a phase as a number, and an enum of six would be turned into it in each.
 fn phase_ms(phase: usize) -> u16
     requires { phase < 6 }
     ensures { result ≡ get_or phases phase 0 }

@@ -6,7 +6,7 @@ ghost use Rattle.evacuation.specs.Opened.{ValidRate};
 
 use super::{Reader, next_phase, phase_byte, phase_ms};
 
-// Whether so many samples are a phase. What is above eleven tenths is turned down first: ten thousand times the rest fits.
+// Whether so many samples are a phase. What is above eleven tenths is turned down first: ten thousand times the rest fits. `phase < 6` stays, as lib.rt says.
 fn within_tenth(sample_rate_hz: u32, phase: usize, samples: usize) -> bool
     requires rate { ValidRate sample_rate_hz }
     requires one { phase < 6 }

@@ -8,7 +8,7 @@ ghost use Rattle.evacuation.specs.Places.{Stands, next_place};
 use super::{Pattern, Place, is_on, next_phase, phase_byte, phase_ms};
 
 impl Pattern {
-    // The samples of a phase: 1,500 × 65,537 fits 32 bits.
+    // The samples of a phase: 1,500 × 65,537 fits 32 bits. `phase < 6` stays, as lib.rt says.
     fn phase_samples(self, phase: usize) -> u32
         requires { phase < 6 }
         ensures samples { result ≡ get_or (lengths self) phase 0 }
@@ -23,8 +23,8 @@ impl Pattern {
         ensures some { 0 < result }
     {
         let mut samples: u32 = 0;
-        for k in 0..6 {
-            samples += self.phase_samples(k);
+        for n in self.lengths() {
+            samples += n;
         }
         samples
     }
@@ -45,9 +45,9 @@ impl Pattern {
     fn place(self, sample: u64) -> Place
         ensures { Stands self sample result }
     {
+        let lengths = self.lengths();
         let mut at = (sample % u64::from(self.cycle_samples())) as u32;
-        for k in 0..5 {
-            let n = self.phase_samples(k);
+        for (k, &n) in lengths[..5].iter().enumerate() {
             if at < n {
                 return Place {
                     phase: k,
@@ -58,7 +58,7 @@ impl Pattern {
         }
         Place {
             phase: 5,
-            left: self.phase_samples(5) - at,
+            left: lengths[5] - at,
         }
     }
 

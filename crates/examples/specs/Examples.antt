@@ -5,6 +5,7 @@ use Rattle.std.proofs.Math.Option.{Option, some}
 use Rattle.envelope.specs.declared.AdsrSpec.{AdsrSpec}
 use Rattle.envelope.specs.declared.Adsr.{Adsr}
 use Rattle.envelope.specs.Adsrs.{idle_adsr, triggered, ticked}
+use Rattle.entering.specs.declared.Lined.{Lined}
 use Rattle.fixed.specs.declared.PanGains.{PanGains}
 use Rattle.fixed.specs.Fixed.{increment, sine, gained, gained_by, pan_gains, limited}
 use Rattle.fm.specs.Fm.{started_fm, fm_sample}
@@ -14,16 +15,15 @@ use Rattle.config.specs.Config.{configured}
 use Rattle.envelope.specs.Adsrs.{click_spec}
 use Rattle.laws.specs.Whole.{neg}
 use Rattle.mixer.specs.Mixers as M
+use Rattle.mixer.specs.declared.Mixer.{Mixer}
 use Rattle.mixer.specs.declared.VoiceStealingPolicy.TheVariants as P
 use Rattle.ranking.specs.Falling.{falling}
 use Rattle.requests.specs.Players.{Player, handed_out, played_all, priorities}
 use Rattle.start.specs.declared.Request.{Request}
-use Rattle.engine.specs.Engines.{boxed, request_of}
+use Rattle.engine.specs.Engines.{request_of}
 use Rattle.engine.specs.Requests as E
-use Rattle.engine.specs.declared.AudioEngine.{AudioEngine}
 use Rattle.sounder.specs.Calls.{opened, banked}
 use Rattle.sounder.specs.Requests as S
-use Rattle.sounder.specs.declared.Sounder.{Sounder}
 
 -- the levels after each of n ticks
 abbrev pub levels : ℕ → Adsr → List ℕ
@@ -44,11 +44,11 @@ bell =
     ∷ 7 ∷ 0 ∷ 0 ∷ 0 ∷ 255 ∷ 0 ∷ 184 ∷ 1 ∷ 0 ∷ 0 ∷ 0 ∷ 0 ∷ 0 ∷ 0 ∷ 0 ∷ 0 ∷ []
 
 -- two silent voices and that bank, in document 01's box and in one of the present rules
-abbrev pub two_voices-of-01 : AudioEngine
-two_voices-of-01 = boxed (M.banked (M.opened 2 (configured 16000 1000 D.Linear) P.LowestPriorityOldest).mixer 8000 1 26).mixer
+abbrev pub two_voices-of-01 : Mixer
+two_voices-of-01 = (M.banked (M.opened 2 (configured 16000 1000 D.Linear) P.LowestPriorityOldest).mixer 8000 1 26).mixer
 
-abbrev pub two_voices : Sounder
-two_voices = (banked (opened 2 (configured 16000 1000 D.Linear) P.LowestPriorityOldest).sounder.state 8000 1 26).sounder
+abbrev pub two_voices : Lined
+two_voices = (banked (opened 2 (configured 16000 1000 D.Linear) P.LowestPriorityOldest).lined 8000 1 26).lined
 
 -- "requests 3, 5, 5, 7", all for the bell
 abbrev pub four_requests : List Request

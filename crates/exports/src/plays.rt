@@ -1,10 +1,9 @@
 // A box of the present rules (document 02) that lives for one call: it is opened, gets a bank, plays requests, and is asked for frames.
 // What is handed over comes one by one from C (C interface), and each call's clause names its fill: a closure for the last step would not be plainer.
-ghost use Rattle.laws.specs.Made.{Made};
+ghost use Rattle.std.specs.Prelude.{◌≡◌};
 ghost use Rattle.buffers.specs.Buffers.{to_i16};
 ghost use Rattle.buffers.specs.declared.Level.TheVariants.{Duty};
 ghost use Rattle.buffers.specs.declared.Shape.TheVariants.{Once, Sides};
-ghost use Rattle.sounder.specs.Sounders.{ValidSounder};
 ghost use Rattle.output.specs.declared.DutyMode.TheVariants as M;
 ghost use Rattle.exports_parts.specs.Told.{Answers};
 ghost use Rattle.exports_parts.specs.Plays.{policy_of, mode_of, settings, readied, with_poly_blep, sounded, panned_from, cells_told, levels_told};
@@ -17,45 +16,40 @@ use sounder::Sounder;
 
 // Above 3 none is started: C hands a number, and one `if` over it is as plain as an `Option` of a waveform.
 #[tactic(auto, using(std::proofs::lemmas::Bool::Decides::nat_tests), unfolding(exports_parts::specs::Plays::with_poly_blep))]
-fn with_polyblep(s: Sounder, waveform: u8, freq_hz: u32, duration_ms: u16) -> Sounder
-    requires { ValidSounder s }
-    ensures { Made ValidSounder (with_poly_blep calls s waveform freq_hz duration_ms) result }
+fn with_polyblep(s: &mut Sounder, waveform: u8, freq_hz: u32, duration_ms: u16)
+    ensures { s.new ≡ with_poly_blep calls s.old waveform freq_hz duration_ms }
 {
     if waveform > 3 {
-        return s;
+        return;
     }
     s.play_polyblep(
         freq_hz,
         duration_ms,
         replay_fields::polyblep_waveform(waveform),
-    )
+    );
 }
 
 // The requests one after another, then PolyBLEP on voice 0.
 fn sounding(
-    s: Sounder,
+    s: &mut Sounder,
     bytes: &[u8],
     requests: &[u8],
     waveform: u8,
     freq_hz: u32,
     duration_ms: u16,
-) -> Sounder
-    requires { ValidSounder s }
-    ensures { Made ValidSounder (sounded calls bytes.now requests.now waveform freq_hz duration_ms s) result }
+)
+    ensures { s.new ≡ sounded calls bytes.now requests.now waveform freq_hz duration_ms s.old }
 {
-    let played = s.play_all(bytes, requests);
-    with_polyblep(played, waveform, freq_hz, duration_ms)
+    s.play_all(bytes, requests);
+    with_polyblep(s, waveform, freq_hz, duration_ms);
 }
 
-fn panned(first: Sounder, pans: &[u8]) -> Sounder
-    requires { ValidSounder first }
-    ensures { Made ValidSounder (panned_from calls 0 pans.now first) result }
+fn panned(s: &mut Sounder, pans: &[u8])
+    ensures { s.new ≡ panned_from calls 0 pans.now s.old }
 {
-    let mut s = first;
     for (i, &pan) in pans.iter().enumerate() {
-        s = s.set_voice_pan(i, pan);
+        s.set_voice_pan(i, pan);
     }
-    s
 }
 
 // A mono frame in each cell.
@@ -81,13 +75,11 @@ pub extern "C" fn birchjack_pcm_i16(
         DutyMode::Linear,
         master_gain_q8,
     );
-    let c = ready(n, free_only, config, bytes, effect_count);
-    match c.outcome {
+    match ready(n, free_only, config, bytes, effect_count) {
         Err(e) => u8::from(e),
-        Ok(()) => {
-            let silent = c.sounder;
-            let s = sounding(
-                silent,
+        Ok(mut s) => {
+            sounding(
+                &mut s,
                 bytes,
                 requests,
                 polyblep_waveform,
@@ -124,21 +116,19 @@ pub extern "C" fn birchjack_stereo_i16(
         DutyMode::Linear,
         master_gain_q8,
     );
-    let c = ready(n, free_only, config, bytes, effect_count);
-    match c.outcome {
+    match ready(n, free_only, config, bytes, effect_count) {
         Err(e) => u8::from(e),
-        Ok(()) => {
-            let silent = c.sounder;
-            let s = sounding(
-                silent,
+        Ok(mut s) => {
+            sounding(
+                &mut s,
                 bytes,
                 requests,
                 polyblep_waveform,
                 polyblep_hz,
                 polyblep_ms,
             );
-            let p = panned(s, pans);
-            p.fill_stereo_panned_i16_buffer(bytes, out);
+            panned(&mut s, pans);
+            s.fill_stereo_panned_i16_buffer(bytes, out);
             0
         }
     }
@@ -166,13 +156,11 @@ pub extern "C" fn birchjack_duty(
 {
     let mode = exports_parts::mode_of(shaped, second_order);
     let config = exports_parts::settings(sample_rate_hz, period, mode, master_gain_q8);
-    let c = ready(n, free_only, config, bytes, effect_count);
-    match c.outcome {
+    match ready(n, free_only, config, bytes, effect_count) {
         Err(e) => u8::from(e),
-        Ok(()) => {
-            let silent = c.sounder;
-            let s = sounding(
-                silent,
+        Ok(mut s) => {
+            sounding(
+                &mut s,
                 bytes,
                 requests,
                 polyblep_waveform,

@@ -2,7 +2,6 @@
 ghost use Rattle.std.specs.Prelude.{◌≡◌, ◌+◌, ◌≤◌, length, set};
 ghost use Rattle.output.specs.declared.DutyMode.TheVariants as M;
 ghost use Rattle.requests.specs.Slices.{big16_at, request_at};
-ghost use Rattle.sounder.specs.Sounders.{ValidSounder};
 ghost use Rattle.exports_parts.specs.Told.{Answers};
 ghost use Rattle.exports_parts.specs.Plays.{policy_of, settings, readied};
 ghost use Rattle.exports_play.specs.Plays.{calls};
@@ -53,20 +52,16 @@ fn tell(numbers: &mut [u8], i: usize, number: u8)
 
 // Leaves every request of the slice, one after another, and tells each one's number in a cell of its own, as far as there are cells. Fewer than twelve bytes at the
 // slice's end are none.
-fn leave_each(first: Sounder, left: &[u8], numbers: &mut [u8]) -> Sounder
-    requires { ValidSounder first }
-    ensures { LeavesEach first left.now numbers.old result numbers.new }
+fn leave_each(s: &mut Sounder, left: &[u8], numbers: &mut [u8])
+    ensures { LeavesEach s.old left.now numbers.old s.new numbers.new }
 {
     let count = left.len() / 12;
-    let mut s = first;
     for i in 0..count {
         let label = big16_at(left, 12 * i);
         let request = request_at(left, 12 * i + 2);
-        let c = s.leave(label, request.id, request.adsr, request.priority);
-        s = c.sounder;
-        tell(numbers, i, number_of(c.outcome));
+        let outcome = s.leave(label, request.id, request.adsr, request.priority);
+        tell(numbers, i, number_of(outcome));
     }
-    s
 }
 
 fn dropped_cells(kept: Option<(AudioError, u16)>) -> [u16; 2]
@@ -104,18 +99,15 @@ pub extern "C" fn birchjack_waiting_pcm_i16(
         DutyMode::Linear,
         master_gain_q8,
     );
-    let c = ready(n, free_only, config, bytes, effect_count);
-    match c.outcome {
+    match ready(n, free_only, config, bytes, effect_count) {
         Err(e) => u8::from(e),
-        Ok(()) => {
-            let silent = c.sounder;
-            let played = silent.play_all(bytes, requests);
-            let s = leave_each(played, left, numbers);
-            let f = s.fill_pcm_i16_buffer(bytes, out);
-            let last = f.sounder;
-            *labels = last.waiting_labels();
-            *count = last.waiting_count();
-            *dropped = dropped_cells(last.kept_refusal());
+        Ok(mut s) => {
+            s.play_all(bytes, requests);
+            leave_each(&mut s, left, numbers);
+            s.fill_pcm_i16_buffer(bytes, out);
+            *labels = s.waiting_labels();
+            *count = s.waiting_count();
+            *dropped = dropped_cells(s.kept_refusal());
             0
         }
     }

@@ -1,5 +1,5 @@
 -- A box that is opened, gets a bank, plays requests and gives frames, all in one call: of any kind that has these calls. Assumes nothing.
-use Rattle.std.specs.Prelude.{ℕ, suc, ◌≡◌, Bool, cond, List, [], ◌∷◌, ◌++◌, map, ltb, ℤ, length, drop, Result}
+use Rattle.std.specs.Prelude.{ℕ, suc, Bool, cond, List, [], ◌∷◌, ◌++◌, map, ltb, ℤ, length, drop, Result}
 use Rattle.std.proofs.lemmas.List.Edits.{sets}
 use Rattle.buffers.specs.Shapes.{Frames, frames_in, cells_in, shape_step, shape_raw, level_next, level_cell}
 use Rattle.buffers.specs.declared.Level.{Level}
@@ -43,11 +43,6 @@ pub record Calls (Box State : Type 0) : Type 0 where
   pub state : Box → State
   -- lent the bank's bytes, which document 01's box does not look at
   pub frames : List ℕ → Frames State
-
--- what readying promises: what it tells, and that the box in it is one that its calls gave back
-pub record Readies {Box Changed : Type 0} (told : Changed → Told Box) (Valid : Changed → Type 0) (t : Told Box) (r : Changed) : Type 0 where
-  pub same : told r ≡ t
-  pub valid : Valid r
 
 module _ {Box State : Type 0} (b : Calls Box State) where
   -- "Opening an engine", then "Setting a bank"

@@ -2,34 +2,33 @@
 // weighs a library as a whole: where frames stand beside, which let requests in that wait, one that is played takes a quarter more instructions.
 #![tactic(auto)]
 
+ghost use Rattle.std.specs.Prelude.{◌≡◌};
+ghost use Rattle.error.specs.Told.{told};
 ghost use Rattle.output.specs.declared.DutyMode.TheVariants as M;
-ghost use Rattle.sounder.specs.Sounders.{ValidSounderChanged};
 ghost use Rattle.exports_parts.specs.Told.{Answers};
-ghost use Rattle.exports_parts.specs.Plays.{policy_of, settings, Readies, readied, play_told};
-ghost use Rattle.exports_play.specs.Plays.{told, calls};
+ghost use Rattle.exports_parts.specs.Plays.{policy_of, settings, readied, play_told};
+ghost use Rattle.exports_play.specs.Plays.{calls};
 
 use config::{AudioConfig, DEFAULT_PWM_PERIOD};
+use error::AudioError;
 use output::DutyMode;
-use sounder::{Sounder, SounderChanged};
+use sounder::Sounder;
 
 // A box with its bank, or what turned it down.
+#[tactic(auto, unfolding(exports_parts::specs::Plays::readied))]
 pub fn ready(
     n: usize,
     free_only: bool,
     config: AudioConfig,
     bytes: &[u8],
     effect_count: u16,
-) -> SounderChanged
-    ensures { Readies told ValidSounderChanged (readied calls n (policy_of free_only) config bytes.now effect_count) result }
+) -> Result<Sounder, AudioError>
+    ensures { told result ≡ readied calls n (policy_of free_only) config bytes.now effect_count }
 {
-    let policy = exports_parts::policy_of(free_only);
-    let opened = Sounder::open(n, config, policy);
-    match opened.outcome {
-        Err(_) => opened,
-        Ok(()) => opened
-            .sounder
-            .set_bank(bytes, config.sample_rate_hz, effect_count),
-    }
+    let (mut s, opened) = Sounder::open(n, config, exports_parts::policy_of(free_only));
+    opened?;
+    s.set_bank(bytes, config.sample_rate_hz, effect_count)?;
+    Ok(s)
 }
 
 // Plays the requests: each one's outcome, and how many voices are audible then. C calls it by `exports_play_c`.
@@ -46,13 +45,11 @@ pub fn birchjack_play(
     ensures { Answers (play_told calls (readied calls n (policy_of free_only) (settings sample_rate_hz 1000 M.Linear 255) bytes.now effect_count) bytes.now requests.now outcomes.old) (outcomes.old, audible.old) result (outcomes.new, audible.new) }
 {
     let config = exports_parts::settings(sample_rate_hz, DEFAULT_PWM_PERIOD, DutyMode::Linear, 255);
-    let c = ready(n, free_only, config, bytes, effect_count);
-    match c.outcome {
+    match ready(n, free_only, config, bytes, effect_count) {
         Err(e) => u8::from(e),
-        Ok(()) => {
-            let silent = c.sounder;
-            let played = silent.play_each(bytes, requests, outcomes);
-            *audible = played.active_voice_count();
+        Ok(mut s) => {
+            s.play_each(bytes, requests, outcomes);
+            *audible = s.active_voice_count();
             0
         }
     }

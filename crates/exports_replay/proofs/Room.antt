@@ -1,14 +1,16 @@
 -- Cells laid over a buffer as far as there is room. Assumes nothing.
-use Prim.Native.Nat.{ℕ, suc, ◌+◌, ◌≤◌, ◌<◌}
+use Prim.Native.Nat.{ℕ, suc, min, ◌+◌, ◌-◌, ◌≤◌}
 use mathlib.Core.Path.{◌≡◌, refl, sym, ap, ◌∙◌}
-use mathlib.Core.List.{List, [], ◌∷◌, ◌++◌}
-use native.Mathlib.Numerals.{add-one}
+use mathlib.Core.List.{List, [], ◌∷◌, ◌++◌, append_assoc}
 use native.Mathlib.Omega.{arith}
 use mathlib.Core.Bool.{Bool, true, false}
 use borrow.Author.Tests.{leb-true, leb-false}
+use borrow.Rule.Slice.PartMut.{put_mid}
 use lib.Dec.{leb}
-use lib.ListN.{length, take, drop, get_or, set, drop_of_length-le}
-use lib.Seq.{sets, set_out, take-nil, drop-cons}
+use lib.ListN.{length, take, drop, set, drop_of_length-le}
+use lib.Seq.{sets, sets-eq, set_out, take-nil, length-sets, length-take-le}
+use Rattle.std.proofs.lemmas.List.{take-append-drop, drop-drop}
+use Rattle.laws.proofs.Lists.{sets-append}
 use Rattle.exports_replay.specs.Runs.{capped}
 
 module _ {A : Type 0} where
@@ -38,15 +40,28 @@ module _ {A : Type 0} where
           let z : capped k ≡ 18446744073709551615 = omega arith in
           rw z (sets-out cells 18446744073709551615 xs h ∙ sym (sets-out cells k xs (omega arith)))
 
-  -- a copy, cell by cell
-  pub put-turn : (cells from : List A) (i k : ℕ) (d : A) → i < length from → sets (set cells k (get_or from i d)) (k + 1) (drop (i + 1) from) ≡ sets cells k (drop i from)
-  put-turn cells from i k d h = rw (drop-cons from i d h, add-one i, add-one k)
+  -- cells that are copied at a place, as many as there is room for
+  sets-room : (cells xs : List A) (k n : ℕ) → k ≤ length cells → n ≡ min (length xs) (length cells - k) → sets cells k (take n xs) ≡ sets cells k xs
+  sets-room cells xs k n h e = by (leb (length xs) n) refl
+    where
+      l : length (take n xs) ≡ n
+      l = length-take-le n xs (omega arith)
 
-  pub put_all : (cells before from : List A) (i k at : ℕ) → length from ≤ i → sets cells k (drop i from) ≡ sets before at from → cells ≡ sets before at from
-  put_all cells before from i k at h e = rw (drop_of_length-le from h) at e
+      s : sets (sets cells k (take n xs)) (k + n) (drop n xs) ≡ sets cells k xs
+      s = rw (take-append-drop n xs, l) at (sets-append cells k (take n xs) (drop n xs))
 
-  pub put_full : (cells before from : List A) (i k at : ℕ) → length cells ≤ k → sets cells k (drop i from) ≡ sets before at from → cells ≡ sets before at from
-  put_full cells before from i k at h e = rw (sets-out cells k (drop i from) h) at e
+      by : (t : Bool) → leb (length xs) n ≡ t → sets cells k (take n xs) ≡ sets cells k xs
+      by true q = let g = leb-true (length xs) n q in rw (drop_of_length-le xs g) at s
+      by false q =
+          let g = leb-false (length xs) n q in
+          let m = length-sets cells k (take n xs) in
+          sym (sets-out (sets cells k (take n xs)) (k + n) (drop n xs) (omega (arith, m))) ∙ s
+
+  pub copied : (cells xs : List A) (k n : ℕ) → k ≤ length cells → n ≡ min (length xs) (length cells - k) → put_mid k n cells (take n xs) ≡ sets cells k xs
+  copied cells xs k n h e =
+      let l : length (take n xs) ≡ n = length-take-le n xs (omega arith) in
+      let f = rw l at (sets-eq (take n xs) cells k (omega (arith, l))) in
+      rw (drop-drop n k cells) (sym (append_assoc (take k cells) (take n xs) (drop (k + n) cells)) ∙ sym f ∙ sets-room cells xs k n h e)
 
 pub capped-sum : (a b : ℕ) → capped (capped a + b) ≡ capped (a + b)
 capped-sum a b = omega arith

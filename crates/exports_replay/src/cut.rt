@@ -1,28 +1,34 @@
 // Where a script's lines end.
-ghost use Rattle.std.specs.Prelude.{◌<◌, length};
-ghost use Rattle.exports_replay.specs.Cuts.{CutAt};
+ghost use Rattle.std.specs.Prelude.{◌≡◌, ◌<◌, length, eqb};
+ghost use Rattle.std.specs.List.{position};
+ghost use Rattle.exports_replay.specs.Cuts.{Cuts};
 
-// The end of a line and the start of the next.
+// The first line, and the bytes after its end.
 #[derive(Clone, Copy)]
-pub(crate) struct Cut {
-    pub end: usize,
-    pub next: usize,
+pub(crate) struct Cut<'a> {
+    pub line: &'a [u8],
+    pub rest: &'a [u8],
 }
 
-// The line that begins at a place within the script.
-pub(crate) fn line_at(script: &[u8], at: usize) -> Cut
-    requires { at < length script.now }
-    ensures { CutAt script.now at result }
+fn newline(script: &[u8]) -> Option<usize>
+    ensures { result ≡ position (λ b. eqb b 10) script.now }
 {
-    let mut i = at;
-    while i < script.len() {
-        if script[i] == 10 {
-            return Cut {
-                end: i,
-                next: i + 1,
-            };
-        }
-        i += 1;
+    script.iter().position(|&b| b == b'\n')
+}
+
+// The last line may lack its newline.
+pub(crate) fn first_line(script: &[u8]) -> Cut<'_>
+    requires { 0 < length script.now }
+    ensures { Cuts script.now result }
+{
+    match newline(script) {
+        Some(end) => Cut {
+            line: &script[..end],
+            rest: &script[end + 1..],
+        },
+        None => Cut {
+            line: script,
+            rest: &script[script.len()..],
+        },
     }
-    Cut { end: i, next: i }
 }

@@ -10,7 +10,8 @@ mod cut;
 mod hosts;
 mod put;
 
-// How much the lines tell, in bytes or cells, and whether none of them is bad.
+// How much the lines tell, in bytes or cells, and whether none of them is bad. Not an Option of the length: what was told up to a bad line
+// counts too.
 #[derive(Clone, Copy)]
 pub struct Ran {
     pub len: usize,
@@ -21,23 +22,18 @@ pub struct Ran {
 pub fn answers(script: &[u8], out: &mut [u8]) -> Ran
     ensures { Poured (answers script.now) (is_good script.now) out.old out.new result }
 {
-    let mut lent = [0u8; 4096];
     let mut text = [0u8; 262144];
     let mut s = Session::new();
-    let mut at = 0;
-    let mut len = 0;
+    let mut left = script;
+    let mut len = 0usize;
     let mut good = true;
-    while good && at < script.len() {
-        let line = cut::line_at(script, at);
-        let end = line.end;
-        let a = replay_session::answer(&script[at..end], s, &mut lent, &mut text);
-        let n = a.len;
-        put::bytes(&text[..n], out, len);
-        len = put::plus(len, n);
+    while good && !left.is_empty() {
+        let cut = cut::first_line(left);
+        let a = s.answer(cut.line, &mut text);
+        put::poured(&text[..a.len], out, len);
+        len = len.saturating_add(a.len);
         good = a.more;
-        let after = a.session;
-        s = after;
-        at = line.next;
+        left = cut.rest;
     }
     Ran { len, good }
 }
@@ -46,24 +42,20 @@ pub fn answers(script: &[u8], out: &mut [u8]) -> Ran
 pub fn sound(script: &[u8], out: &mut [i16]) -> Ran
     ensures { Poured (sounds script.now) (is_good script.now) out.old out.new result }
 {
-    let mut lent = [0u8; 4096];
     let mut text = [0u8; 262144];
     let mut cells = [0i16; 4096];
     let mut s = Session::new();
-    let mut at = 0;
-    let mut len = 0;
+    let mut left = script;
+    let mut len = 0usize;
     let mut good = true;
-    while good && at < script.len() {
-        let line = cut::line_at(script, at);
-        let end = line.end;
-        let n = render_sounds::sound(&script[at..end], s, &lent, &mut cells);
-        put::samples(&cells[..n], out, len);
-        len = put::plus(len, n);
-        let a = replay_session::answer(&script[at..end], s, &mut lent, &mut text);
+    while good && !left.is_empty() {
+        let cut = cut::first_line(left);
+        let n = render_sounds::sound(cut.line, &s, &mut cells);
+        put::poured(&cells[..n], out, len);
+        len = len.saturating_add(n);
+        let a = s.answer(cut.line, &mut text);
         good = a.more;
-        let after = a.session;
-        s = after;
-        at = line.next;
+        left = cut.rest;
     }
     Ran { len, good }
 }

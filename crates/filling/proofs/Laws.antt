@@ -27,7 +27,7 @@ use Rattle.spans.proofs.Laws.{none-quiet, quiet-after, quiet-given}
 use Rattle.steps.specs.Steps.{mono, duty, stereo}
 use Rattle.filling.specs.Frames.{Fills, Levels}
 use Rattle.filling.specs.Parts.{at_once}
-use Rattle.filling.proofs.Parts.{Kind, Parting, recount, once-most, parts-start, parts-long, parts-fit, parts-turn, parts-end}
+use Rattle.filling.proofs.Parts.{Kind, Parting, recount, once-most, once-some, parts-start, parts-long, parts-fit, parts-turn, parts-end}
 
 -- ---- by shape
 shape-frame : (z : Shape) → IsFrame (λ p. settled (shape_step present_frames z p))
@@ -82,7 +82,7 @@ module _ {A : Type 0} (scale : ℤ → A) (z : Shape) (bytes : List ℕ) (s₀ :
   shape-turn {e = e} {at = at} {n = n} {end} {out} h k m o b f q =
       let c : length (take (end - at) (drop at out)) ≡ n * wide z = part_length at (n * wide z) end out b (omega (arith, shape-fits e h o, shape-long h)) in
       let y = shape-whole z n (length (take (end - at) (drop at out))) c in
-      parts-turn _ _ _ _ _ _ h k m o b c (recount y.0 y.1 f) q refl
+      parts-turn _ _ _ _ _ _ h k m o b c (recount y.0 y.1 f) q
 
 pub shape-end : {A : Type 0} (scale : ℤ → A) (z : Shape) (bytes : List ℕ) (s₀ : Lined) (out₀ : List A) {s : Lined} {at left : ℕ} {out : List A} → Shaped scale z bytes s₀ out₀ s at left out
     → left ≡ 0 → Fills scale z bytes s₀ out₀ (record { lined = s; filled = at }) out
@@ -122,7 +122,7 @@ module _ (l : Level) (bytes : List ℕ) (s₀ : Lined) (out₀ : List ℕ) where
   level-turn {e = e} {at = at} {n = n} {out} h k m o f q =
       let c : length (take (at + n - at) (drop at out)) ≡ n = part_length at n (at + n) out refl (omega (arith, level-fits e h o, level-long h)) in
       let w : n ≡ n * 1 = omega arith in
-      parts-turn _ _ _ _ _ _ h k m o (omega arith) (c ∙ w) (recount c (c ∙ w) f) q refl
+      parts-turn _ _ _ _ _ _ h k m o (omega arith) (c ∙ w) (recount c (c ∙ w) f) q
 
 pub level-end : (l : Level) (bytes : List ℕ) (s₀ : Lined) (out₀ : List ℕ) {s : Lined} {at left : ℕ} {out : List ℕ} → Leveled l bytes s₀ out₀ s at left out → left ≡ 0
     → Levels l bytes s₀ out₀ (record { lined = s; filled = at }) out
@@ -158,3 +158,7 @@ pub as-before-level : (l : Level) (bytes : List ℕ) (s : Lined) {cells filled :
 as-before-level Duty bytes s h e f = fills-before _ _ bytes s h e (level-settled Duty s.present h.present refl f)
 as-before-level U12 bytes s h e f = fills-before _ _ bytes s h e (level-settled U12 s.present h.present refl f)
 as-before-level U16 bytes s h e f = fills-before _ _ bytes s h e (level-settled U16 s.present h.present refl f)
+
+pub ruleset shape_parts = (shape-start, once-most, once-some)
+
+pub ruleset level_parts = (level-start, once-most, once-some)

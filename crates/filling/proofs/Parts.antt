@@ -5,13 +5,13 @@ use native.Mathlib.Omega.{arith}
 use borrow.Author.Tests.{eqb-true, eqb-false}
 use mathlib.Core.Path.{◌≡◌, refl, sym, ◌∙◌, ap}
 use mathlib.Core.Bool.{Bool, true, false, cond}
-use mathlib.Core.List.{List, [], ◌++◌, append-nil, append_assoc}
+use mathlib.Core.List.{List, [], ◌++◌, append-nil}
 use lib.Dec.{eqb}
 use lib.ListN.{length, take, drop}
-use lib.Seq.{sets, sets-eq, drop-drop, drop-length}
+use lib.Seq.{drop-length}
 use Rattle.block.specs.Blocks.{ValidInside}
 use Rattle.buffers.specs.Buffers.{Done, FillsIn}
-use Rattle.buffers.proofs.Fill.{Filling, filling-start, filling-long, filling-turn, filling-end, length-given}
+use Rattle.buffers.proofs.Blocks.{Filling, filling-start, filling-long, filling-turn, filling-end}
 use Rattle.buffers.proofs.Settled.{fills-settled}
 use Rattle.entering.specs.Entering.{entered_in}
 use Rattle.entering.specs.Lined.{Valid, lined}
@@ -47,10 +47,6 @@ once-some s left h k = go (eqb s.line.count 0)
 pub recount : {State A : Type 0} {Good : State → Type 0} {step : State → State} {gives : State → List A} {i j v w : ℕ} {s : State} {cells filled : List A} {r : Done State}
     → i ≡ j → v ≡ w → FillsIn Good step gives i v s cells r filled → FillsIn Good step gives j w s cells r filled
 recount e f h = record { state = rw e at h.state; count = h.count ∙ f; content = rw (e, f) at h.content }
-
--- a part that came back filled
-laid : {A : Type 0} (out ys : List A) (at k : ℕ) → length ys ≡ k → at + k ≤ length out → take at out ++ (ys ++ drop k (drop at out)) ≡ sets out at ys
-laid out ys at k e h = rw (sets-eq ys out at (rw e h), e, drop-drop k at out, append_assoc)
 
 -- a kind of frame: settling may wait, a frame takes at most one off what is left, and what it gives is so wide
 pub record Kind {A : Type 0} (step : Present → Present) (gives : Present → List A) (width : ℕ) : Type 0 where
@@ -113,25 +109,22 @@ module _ {A : Type 0} {step : Present → Present} {gives : Present → List A} 
     pub parts-fit : {s : Lined} {at left : ℕ} {out : List A} (n : ℕ) → Parting s at left out → n ≤ left → at + n * width ≤ length out₀
     parts-fit {left = left} n h k = omega (arith, split n left k, h.rest, room)
 
-    pub parts-turn : {s e : Lined} {q : Present} {at left n end : ℕ} {out is cells filled : List A} {r : Done Present} → Parting s at left out → 1 ≤ left
+    pub parts-turn : {s e : Lined} {q : Present} {at left n end : ℕ} {out cells filled : List A} {r : Done Present} → Parting s at left out → 1 ≤ left
         → Made Valid (entered_in bytes s) e → n ≡ at_once e left → end ≡ at + n * width → length cells ≡ n * width
-        → FillsIn ValidInside step gives n (n * width) e.present cells r filled → q ≡ settled r.state → is ≡ take at out ++ (filled ++ drop (end - at) (drop at out))
-        → Parting (lined q e.kept e.line) end (left - n) is
-    parts-turn {s} {e} {q} {at} {left} {n} {end} {out} {is} {cells} {filled} {r} h k m o b l f z w =
+        → FillsIn ValidInside step gives n (n * width) e.present cells r filled → q ≡ settled r.state
+        → Parting (lined q e.kept e.line) end (left - n) (take at out ++ (filled ++ drop (end - at) (drop at out)))
+    parts-turn {s} {e} {q} {at} {left} {n} {end} {out} {cells} {filled} {r} h k m o b l f z =
         let most : n ≤ left = rw o (once-most e left) in
         let some : 1 ≤ n = rw o (once-some e left m.valid k) in
         let g = fills-settled step gives kind.still n (n * width) e.present cells filled r m.valid.present z f in
         let none : drop (n * width) cells ≡ [] = ap (λ (i : ℕ). drop i cells) (sym l) ∙ drop-length cells in
         let c : filled ≡ given each gives n e.present = g.content ∙ rw (none, append-nil) in
         let run = runs n left s h.filling.state.valid (rw m.same at m.valid) some (rw m.same at o) (rw m.same at g.state.same) (rw m.same at c) in
-        let fit = parts-fit n h most in
-        let y : end - at ≡ n * width = omega (arith, b) in
         record {
           filling =
-              rw b
-              (filling-turn Valid lined_step lined_cells width s₀ out₀ (λ s. kind.wide (entered_in bytes s).present) n h.filling
+              filling-turn Valid lined_step lined_cells width s₀ out₀ (λ s. kind.wide (entered_in bytes s).present) n h.filling
               (record { same = rw m.same run.state; valid = record { present = g.state.valid; line = m.valid.line } })
-              run.cells refl fit (w ∙ rw y (laid out filled at (n * width) (ap length c ∙ length-given each gives width kind.wide n e.present) (omega (arith, fit, parts-long h)))));
+              run.cells b (rw b (parts-fit n h most));
           rest = omega (arith, h.rest, split n left most, b);
         }
 

@@ -15,7 +15,7 @@ pub fn float_of(bits: u32) -> f32
     }
 }
 
-// The source's `x.clamp(lo, hi)`. std's asks that lo <= hi, which this asks of no caller.
+// A public function of the source, its `x.clamp(lo, hi)`. std's asks that lo <= hi, which this asks of no caller.
 #[tactic(auto, unfolding(laws::specs::F32::held_to_f))]
 pub fn clamp_f32(x: f32, lo: f32, hi: f32) -> f32
     ensures { result ≡ held_to_f lo hi x }

@@ -63,14 +63,14 @@ pub fn sin_table(index: u8) -> i8
     (y * (255 - up) / 256) as i8
 }
 
-// The source's `b as i8`: the byte read as two's complement.
+// The source's `b as i8`, a public function of its name: the byte read as two's complement.
 pub fn as_i8(b: u8) -> i8
     ensures { result ≡ to_z w8 b }
 {
     b.cast_signed()
 }
 
-// The source's `s as u8`: its bits.
+// The source's `s as u8`, public as well: its bits.
 pub fn as_u8(s: i8) -> u8
     ensures { result ≡ of_z w8 s }
 {
@@ -126,6 +126,7 @@ pub fn apply_document_01_gain(sample: i8, gain_q8: u8) -> i8
     apply_gain_by(sample, gain_q8, false)
 }
 
+// A public function of the source.
 #[tactic(auto, using(std::proofs::lemmas::Int::ints, std::proofs::lemmas::Int::clamps), unfolding(laws::specs::Whole::held_to))]
 pub fn clamp_sample(v: i32) -> i8
     ensures { result ≡ held_to (neg 128) (pos 127) v }

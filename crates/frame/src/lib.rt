@@ -7,6 +7,7 @@ ghost use Rattle.frame.specs.Lasting.{frames_left};
 
 use mixer::Mixer;
 
+// The kinds of frame differ in what is given alone; contracts name it (`pcm`, `duty`, `left`), which one generic struct's field would not.
 // A state after a mono frame, and the sample.
 #[derive(Clone, Copy)]
 pub struct MonoFrame {

@@ -3,9 +3,8 @@
 
 ghost use Rattle.std.specs.Prelude.{◌≡◌};
 ghost use Rattle.laws.specs.Made.{Made};
-ghost use Rattle.sounder.specs.Frames.{ValidDuty};
-ghost use Rattle.sounder.specs.Sounders.{ValidSounder};
-ghost use Rattle.framelist_answers.specs.Lines.{started, bad_answer, is_tone, tone_answer, is_frames, ticked, frames_answer, line_answer, Told, Answers};
+ghost use Rattle.entering.specs.Lined.{Valid};
+ghost use Rattle.framelist_answers.specs.Lines.{started, bad_answer, is_tone, tone_answer, is_frames, frames_answer, line_answer, Told, Answers};
 
 use config::AudioConfig;
 use hex_digits::{all_digits, byte_at, end_line, long_at, put, put_line, wide_at};
@@ -13,19 +12,17 @@ use mixer::VoiceStealingPolicy;
 use output::DutyMode;
 use replay_fields::tone_waveform;
 use sounder::Sounder;
-use sounder::ticks::SounderDuty;
 
-// How many bytes the answer has, whether the run goes on, and the box after the line.
+// How many bytes the answer has, and whether the run goes on: a line that ends it has an answer too.
 #[derive(Clone, Copy)]
 pub struct Answered {
     pub len: usize,
     pub more: bool,
-    pub sounder: Sounder,
 }
 
 // The box before the first line.
 pub fn start() -> Sounder
-    ensures { Made ValidSounder started result }
+    ensures { Made Valid started result }
 {
     let config = AudioConfig {
         sample_rate_hz: 16000,
@@ -33,20 +30,15 @@ pub fn start() -> Sounder
         duty_mode: DutyMode::Linear,
         master_gain_q8: 255,
     };
-    let c = Sounder::open(2, config, VoiceStealingPolicy::LowestPriorityOldest);
-    c.sounder
+    let (s, _) = Sounder::open(2, config, VoiceStealingPolicy::LowestPriorityOldest);
+    s
 }
 
-fn bad(s: Sounder, out: &mut [u8; 262144]) -> Answered
-    requires { ValidSounder s }
-    ensures { Told (bad_answer s) out.old out.new result }
+fn bad(s: &mut Sounder, out: &mut [u8; 262144]) -> Answered
+    ensures { Told (bad_answer s.old) out.old out.new result s.new }
 {
     let len = put_line(out, 0xffff, 4);
-    Answered {
-        len,
-        more: false,
-        sounder: s,
-    }
+    Answered { len, more: false }
 }
 
 fn is_tone(l: &[u8]) -> bool
@@ -61,45 +53,27 @@ fn is_frames(l: &[u8]) -> bool
     l.len() == 4 && byte_at(l, 0) == 0x02
 }
 
-fn tone_answer(l: &[u8], s: Sounder, out: &mut [u8; 262144]) -> Answered
-    requires { ValidSounder s }
-    ensures { Told (tone_answer s l.now) out.old out.new result }
+fn tone_answer(l: &[u8], s: &mut Sounder, out: &mut [u8; 262144]) -> Answered
+    ensures { Told (tone_answer s.old l.now) out.old out.new result s.new }
 {
     let waveform = tone_waveform(byte_at(l, 7));
-    let sounder = s.play_tone(long_at(l, 1), wide_at(l, 5), waveform);
-    Answered {
-        len: 0,
-        more: true,
-        sounder,
-    }
+    s.play_tone(long_at(l, 1), wide_at(l, 5), waveform);
+    Answered { len: 0, more: true }
 }
 
-// One frame; no bank is lent.
-fn ticked(s: Sounder) -> SounderDuty
-    requires { ValidSounder s }
-    ensures { Made ValidDuty (ticked s) result }
+// A frame's duty on a line of its own, so often; no bank is lent.
+fn frames_answer(count: u8, s: &mut Sounder, out: &mut [u8; 262144]) -> Answered
+    ensures { Told (frames_answer count s.old) out.old out.new result s.new }
 {
-    let none = [0u8; 1];
-    s.tick(&none[..0])
-}
-
-// A frame's duty on a line of its own, so often.
-fn frames_answer(count: u8, s: Sounder, out: &mut [u8; 262144]) -> Answered
-    requires { ValidSounder s }
-    ensures { Told (frames_answer count s) out.old out.new result }
-{
-    let mut sounder = s;
     let mut at = 0;
     for _ in 0..count {
-        let d = ticked(sounder);
-        let digits = put(out, at, d.duty as u64, 4);
+        let duty = s.tick(&[]);
+        let digits = put(out, at, u64::from(duty), 4);
         at = end_line(out, digits);
-        sounder = d.sounder;
     }
     Answered {
         len: at,
         more: true,
-        sounder,
     }
 }
 
@@ -107,9 +81,8 @@ fn frames_answer(count: u8, s: Sounder, out: &mut [u8; 262144]) -> Answered
 fn whole(cells: &[u8]) {}
 
 // What a line makes of the run, and its answer at the front of the buffer, which has more room than any answer needs.
-pub fn answer(line: &[u8], s: Sounder, out: &mut [u8; 262144]) -> Answered
-    requires { ValidSounder s }
-    ensures { Answers (line_answer s line.now) out.old out.new result }
+pub fn answer(line: &[u8], s: &mut Sounder, out: &mut [u8; 262144]) -> Answered
+    ensures { Answers (line_answer s.old line.now) out.old out.new result s.new }
 {
     whole(&*out);
     if !all_digits(line) {

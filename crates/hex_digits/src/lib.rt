@@ -18,6 +18,7 @@ pub fn all_digits(l: &[u8]) -> bool
     l.iter().all(|&c| is_digit(c))
 }
 
+// Total, as the records are read: what is no digit counts as 0. An Option would be unwrapped to 0 at each use.
 #[tactic(auto, unfolding(crate::specs::Hex::digit_of, crate::specs::Hex::between))]
 fn digit(c: u8) -> u8
     ensures { (result ≡ digit_of c) × (result < 16) }
@@ -78,7 +79,7 @@ pub fn three_at(l: &[u8], k: usize) -> u32
     256 * u32::from(wide_at(l, k)) + u32::from(byte_at(l, k + 2))
 }
 
-// So many bytes of a line from byte k on, into as many cells; no more than there are cells.
+// So many bytes of a line from byte k on, into as many cells; no more than there are cells. The cells are lent, since there is no heap.
 pub fn bytes_from(l: &[u8], k: u8, n: usize, cells: &mut [u8; 4096])
     ensures { cells.new ≡ sets cells.old 0 (bytes_from l.now k (min n 4096)) }
 {
@@ -94,6 +95,7 @@ fn digit_char(n: u8) -> u8
     if n < 10 { b'0' + n } else { b'A' + (n - 10) }
 }
 
+// Here and below a line is put into one fixed buffer, since there is no heap; the place goes on from call to call, as a Vec's length would.
 // The low digits of the value from a place on, the last one first; a digit past the buffer's end is left out. It gives the place after
 // them.
 pub fn put(out: &mut [u8; 262144], at: usize, value: u64, digits: u8) -> usize

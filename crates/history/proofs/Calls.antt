@@ -51,7 +51,6 @@ use Rattle.waiting.specs.declared.Waiting.{Waiting}
 use Rattle.waiting.proofs.Lists.{by-test}
 use Rattle.sounder.specs.Calls.{opened, fade_marks, bank_marks}
 use Rattle.sounder.specs.Steps.{frame_step, Lent, framed, Call, by01, fade_on, leave, withdraw, called01, called, box}
-use Rattle.sounder.specs.declared.Sounder.{Sounder}
 use Rattle.sounder.proofs.Heard.{HeardBy, toned-others, bleped-others, faded-heard, on-heard}
 use Rattle.sounder.proofs.Settled.{silent, opened-silent, all-stopped}
 use Rattle.sounder.proofs.Valid.{panned-alike}
@@ -246,32 +245,32 @@ unfolding M.stopped
 all-stopped-here m a = all-stopped m.n m.voices a
 
 -- ---- every call, every frame
-call-kept01 : (c : S.Call) (s : Sounder) (h : History) → Kept s.state.present h → Kept (called01 c s).state.present (called_now01 c s h)
+call-kept01 : (c : S.Call) (s : Lined) (h : History) → Kept s.present h → Kept (called01 c s).present (called_now01 c s h)
 unfolding M.banked
-call-kept01 (play bytes r) s h k = played-kept s.state.present h bytes r k
+call-kept01 (play bytes r) s h k = played-kept s.present h bytes r k
 call-kept01 (tone hz ms w) s h k =
-    let m = s.state.present.mixer in
-    begun_kept s.state.present h 0 (P.toned m hz ms w) k (omega arith) (toned-sized m hz ms w k.ready.sized) (toned-rest m hz ms w k.rest) (toned-others m hz ms w)
+    let m = s.present.mixer in
+    begun_kept s.present h 0 (P.toned m hz ms w) k (omega arith) (toned-sized m hz ms w k.ready.sized) (toned-rest m hz ms w k.rest) (toned-others m hz ms w)
 call-kept01 (poly_blep hz ms w) s h k =
-    let m = s.state.present.mixer in
-    begun_kept s.state.present h 0 (P.poly_bleped m hz ms w) k (omega arith) (bleped-sized m hz ms w k.ready.sized) (bleped-rest m hz ms w k.rest) (bleped-others m hz ms w)
-call-kept01 (bank rate count len) s h k = banked-kept s.state.present h (bank_of rate count len) k
-call-kept01 (pan i q) s h k = changed-kept s.state.present h (M.panned s.state.present.mixer i q) k (panned-sized s.state.present.mixer i q k.ready.sized) (panned-rest s.state.present.mixer i q k.rest) (panned-alike s.state.present.mixer i q)
-call-kept01 (master_gain gain) s h k = changed-kept s.state.present h (M.with_master_gain s.state.present.mixer gain) k (gained-sized s.state.present.mixer gain k.ready.sized) (gained-rest s.state.present.mixer gain k.rest) (gained-alike s.state.present.mixer gain)
+    let m = s.present.mixer in
+    begun_kept s.present h 0 (P.poly_bleped m hz ms w) k (omega arith) (bleped-sized m hz ms w k.ready.sized) (bleped-rest m hz ms w k.rest) (bleped-others m hz ms w)
+call-kept01 (bank rate count len) s h k = banked-kept s.present h (bank_of rate count len) k
+call-kept01 (pan i q) s h k = changed-kept s.present h (M.panned s.present.mixer i q) k (panned-sized s.present.mixer i q k.ready.sized) (panned-rest s.present.mixer i q k.rest) (panned-alike s.present.mixer i q)
+call-kept01 (master_gain gain) s h k = changed-kept s.present h (M.with_master_gain s.present.mixer gain) k (gained-sized s.present.mixer gain k.ready.sized) (gained-rest s.present.mixer gain k.rest) (gained-alike s.present.mixer gain)
 call-kept01 stop s h k =
-    silent-kept (M.stopped s.state.present.mixer) _ true s.state.present.marks.sounds_on (stopped-sized s.state.present.mixer k.ready.sized) (all-stopped-here s.state.present.mixer k.rest) refl
+    silent-kept (M.stopped s.present.mixer) _ true s.present.marks.sounds_on (stopped-sized s.present.mixer k.ready.sized) (all-stopped-here s.present.mixer k.rest) refl
     (sym k.alike.on)
     (sym k.alike.marks.long ∙ k.ready.marked) k.past
 call-kept01 (fade bytes id ms adsr) s h k =
-    let m = s.state.present.mixer in
-    faded-kept false s.state.present h (F.faded_under true m bytes id ms adsr) k (faded-sized m bytes id ms adsr k.ready.sized) (faded-rest m bytes id ms adsr k.rest) (faded-heard m bytes id ms adsr)
+    let m = s.present.mixer in
+    faded-kept false s.present h (F.faded_under true m bytes id ms adsr) k (faded-sized m bytes id ms adsr k.ready.sized) (faded-rest m bytes id ms adsr k.rest) (faded-heard m bytes id ms adsr)
 call-kept01 look s h k = k
 
-pub call_kept : (c : Call) (s : Sounder) (h : History) → Kept s.state.present h → Kept (called c s).state.present (called_now c s h)
+pub call_kept : (c : Call) (s : Lined) (h : History) → Kept s.present h → Kept (called c s).present (called_now c s h)
 call_kept (by01 c) s h k = call-kept01 c s h k
 call_kept (fade_on bytes id ms adsr) s h k =
-    let m = s.state.present.mixer in
-    faded-kept true s.state.present h (F.faded_on m bytes id ms adsr) k (on-sized m bytes id ms adsr k.ready.sized) (on-rest m bytes id ms adsr k.rest) (on-heard m bytes id ms adsr)
+    let m = s.present.mixer in
+    faded-kept true s.present h (F.faded_on m bytes id ms adsr) k (on-sized m bytes id ms adsr k.ready.sized) (on-rest m bytes id ms adsr k.rest) (on-heard m bytes id ms adsr)
 call_kept (leave label r) s h k = k
 call_kept (withdraw label) s h k = k
 
@@ -287,25 +286,25 @@ enter-kept bytes (w ∷ ws) p k h c =
     (enter-kept bytes ws q.present (kept_after q.outcome w.label k) (handed_now (told q.outcome) h) (played-kept p h bytes w.request c)))
     (λ e. rw (entered-busy bytes p k (w ∷ ws) e, e) c)
 
-frame-kept : (f : Lent) (s : Sounder) (h : History) → Kept s.state.present h → Kept (framed f s).state.present (framed_now f s h)
+frame-kept : (f : Lent) (s : Lined) (h : History) → Kept s.present h → Kept (framed f s).present (framed_now f s h)
 frame-kept f s h k = by_kind f.kind
   where
     e : Lined
-    e = entered_in f.bytes s.state
+    e = entered_in f.bytes s
 
     g : History
-    g = entered_now f.bytes s.state.present (in_line s.state.line) h
+    g = entered_now f.bytes s.present (in_line s.line) h
 
     c : Kept e.present g
-    c = enter-kept f.bytes (in_line s.state.line) s.state.present s.state.kept h k
+    c = enter-kept f.bytes (in_line s.line) s.present s.kept h k
 
-    by_kind : (z : Frame) → Kept (frame_step z f.bytes s.state).present (advanced_now e.present g)
+    by_kind : (z : Frame) → Kept (frame_step z f.bytes s).present (advanced_now e.present g)
     by_kind mono = mono-kept e.present g c
     by_kind duty = duty-kept e.present g c
     by_kind stereo = stereo-kept e.present g c
 
 -- ---- in any order
-pub along : (ss : List (Step Lent Call)) (s : Sounder) (h : History) → Kept s.state.present h → Kept (after_all box ss s).state.present (history_of ss s h)
+pub along : (ss : List (Step Lent Call)) (s : Lined) (h : History) → Kept s.present h → Kept (after_all box ss s).present (history_of ss s h)
 unfolding after_all history_of
 along [] s h k = k
 along (frame f ∷ ss) s h k = along ss (framed f s) (framed_now f s h) (frame-kept f s h k)
@@ -331,14 +330,14 @@ none-past i = go 16 i
     go (suc m) (suc j) = go m j
 
 pub from-opening : (n : ℕ) (config : AudioConfig) (policy : VoiceStealingPolicy) (ss : List (Step Lent Call))
-    → let s = (opened n config policy).sounder in Kept (after_all box ss s).state.present (history_of ss s unstarted)
+    → let s = (opened n config policy).lined in Kept (after_all box ss s).present (history_of ss s unstarted)
 from-opening n config policy ss =
-    let s = (opened n config policy).sounder in
-    along ss s unstarted (silent-kept s.state.present.mixer unstarted true false (opened-sized n config policy) (opened-silent n config policy) refl refl refl none-past)
+    let s = (opened n config policy).lined in
+    along ss s unstarted (silent-kept s.present.mixer unstarted true false (opened-sized n config policy) (opened-silent n config policy) refl refl refl none-past)
 
 -- "the ranks are those that start times would give": after calls and frames in any order, from an opening on
 pub by-starts : (n : ℕ) (config : AudioConfig) (policy : VoiceStealingPolicy) (ss : List (Step Lent Call))
-    → ByHistory (after_all box ss (opened n config policy).sounder) (history_of ss (opened n config policy).sounder unstarted)
+    → ByHistory (after_all box ss (opened n config policy).lined) (history_of ss (opened n config policy).lined unstarted)
 by-starts n config policy ss = by-history _ _ (from-opening n config policy ss)
 
 -- ---- "of two voices that stay audible and are not started, the order never changes"
@@ -349,14 +348,14 @@ kept-order k l i j a b c d e f = l.alike.marks.order i j c d ∙ rw (e, f) (sym 
 
 -- after ss, and after ts more: voices audible at both times, started last at the same time
 pub same-order : (n : ℕ) (config : AudioConfig) (policy : VoiceStealingPolicy) (ss ts : List (Step Lent Call)) (i j : ℕ)
-    → let s = (opened n config policy).sounder in
+    → let s = (opened n config policy).lined in
     let before = after_all box ss s in
     let then = history_of ss s unstarted in
     let after = after_all box ts before in
     let now = history_of ts before then in
-    heard_at (heard_of before.state.present) i ≡ true → heard_at (heard_of before.state.present) j ≡ true → heard_at (heard_of after.state.present) i ≡ true → heard_at (heard_of after.state.present) j ≡ true
+    heard_at (heard_of before.present) i ≡ true → heard_at (heard_of before.present) j ≡ true → heard_at (heard_of after.present) i ≡ true → heard_at (heard_of after.present) j ≡ true
     → rank_at now.marks.voices i ≡ rank_at then.marks.voices i → rank_at now.marks.voices j ≡ rank_at then.marks.voices j
-    → ltb (rank_at after.state.present.marks.voices i) (rank_at after.state.present.marks.voices j) ≡ ltb (rank_at before.state.present.marks.voices i) (rank_at before.state.present.marks.voices j)
+    → ltb (rank_at after.present.marks.voices i) (rank_at after.present.marks.voices j) ≡ ltb (rank_at before.present.marks.voices i) (rank_at before.present.marks.voices j)
 same-order n config policy ss ts i j =
     let k = from-opening n config policy ss in
     kept-order k (along ts _ _ k) i j

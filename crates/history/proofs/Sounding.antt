@@ -40,7 +40,7 @@ use Rattle.waiting.proofs.Lists.{by-test}
 use Rattle.sounder.specs.Calls.{opened, played, faded_on}
 use Rattle.sounder.specs.Sounding.{SoundsOn}
 use Rattle.sounder.specs.Steps.{Lent, framed, Call, by01, fade_on, leave, withdraw, called, goes_on, box}
-use Rattle.sounder.specs.declared.Sounder.{Sounder}
+use Rattle.entering.specs.declared.Lined.{Lined}
 use Rattle.sounder.proofs.Sounding.{ready-sounds-on}
 use Rattle.sounder.proofs.Steps.{box-lawful, fade-on-takes}
 use Rattle.history.specs.Histories.{History, unstarted, handed_now, faded_now, called_now01, called_now, entered_now, framed_now, history_of}
@@ -62,8 +62,8 @@ down_by (value x) (value y) e g = g
 down_by (value x) (refused n) e g = cc
 down_by (refused k) t e g = refl
 
-leaves01 : (c : S.Call) (s : Sounder) (h : History) → goes_on (by01 c) s ≡ true → (called_now01 c s h).marks.sounds_on ≡ h.marks.sounds_on
-leaves01 (play bytes r) s h g = handed-leaves (told (played s.state bytes r).outcome) h
+leaves01 : (c : S.Call) (s : Lined) (h : History) → goes_on (by01 c) s ≡ true → (called_now01 c s h).marks.sounds_on ≡ h.marks.sounds_on
+leaves01 (play bytes r) s h g = handed-leaves (told (played s bytes r).gave) h
 leaves01 (tone hz ms w) s h g = refl
 leaves01 (poly_blep hz ms w) s h g = refl
 leaves01 (bank rate count len) s h g = refl
@@ -71,13 +71,13 @@ leaves01 (pan i q) s h g = refl
 leaves01 (master_gain gain) s h g = refl
 leaves01 stop s h g = refl
 leaves01 (fade bytes id ms adsr) s h g =
-    let o : Bool → Result (Unit {0}) AudioError = λ rule. (F.faded_under rule s.state.present.mixer bytes id ms adsr).outcome in
-    down-leaves false (o true) h (down_by (told (o true)) (told (o false)) (same-fade true false s.state.present.mixer bytes id ms adsr).done g)
+    let o : Bool → Result (Unit {0}) AudioError = λ rule. (F.faded_under rule s.present.mixer bytes id ms adsr).outcome in
+    down-leaves false (o true) h (down_by (told (o true)) (told (o false)) (same-fade true false s.present.mixer bytes id ms adsr).done g)
 leaves01 look s h g = refl
 
-call-leaves : (c : Call) (s : Sounder) (h : History) → goes_on c s ≡ true → (called_now c s h).marks.sounds_on ≡ h.marks.sounds_on
+call-leaves : (c : Call) (s : Lined) (h : History) → goes_on c s ≡ true → (called_now c s h).marks.sounds_on ≡ h.marks.sounds_on
 call-leaves (by01 c) s h g = leaves01 c s h g
-call-leaves (fade_on bytes id ms adsr) s h g = down-leaves true (faded_on s.state bytes id ms adsr).outcome h g
+call-leaves (fade_on bytes id ms adsr) s h g = down-leaves true (faded_on s bytes id ms adsr).gave h g
 call-leaves (leave label r) s h g = refl
 call-leaves (withdraw label) s h g = refl
 
@@ -95,14 +95,14 @@ both : (a : Bool) {b : Bool} → a && b ≡ true → (a ≡ true) × (b ≡ true
 both true h = (refl, h)
 both false h = never h
 
-steps-leave : (ss : List (Step Lent Call)) (s : Sounder) (h : History) → unbroken box ss s ≡ true → (history_of ss s h).marks.sounds_on ≡ h.marks.sounds_on
+steps-leave : (ss : List (Step Lent Call)) (s : Lined) (h : History) → unbroken box ss s ≡ true → (history_of ss s h).marks.sounds_on ≡ h.marks.sounds_on
 unfolding unbroken history_of
 steps-leave [] s h u = refl
 steps-leave (frame f ∷ ss) s h u =
-    let ws = in_line s.state.line in
+    let ws = in_line s.line in
     steps-leave ss (framed f s) (framed_now f s h) u
-    ∙ marks-on (entered_in f.bytes s.state).present.mixer (entered_now f.bytes s.state.present ws h).marks
-    ∙ entered-leaves f.bytes ws s.state.present h
+    ∙ marks-on (entered_in f.bytes s).present.mixer (entered_now f.bytes s.present ws h).marks
+    ∙ entered-leaves f.bytes ws s.present h
 steps-leave (call c ∷ ss) s h u =
     let g = both (goes_on c s) u in
     steps-leave ss (called c s) (called_now c s h) g.1 ∙ call-leaves c s h g.0
@@ -120,10 +120,10 @@ advance-moves m k = go m.crossfade_active (eqb (next_t m) 255) k
 same-moves : {a b : Mixer} → SameFade a b → Moves b → Moves a
 same-moves f k h = rw f.step (k (sym f.active ∙ h))
 
-steps-move : (ss : List (Step Lent Call)) (s : Sounder) → Moves s.state.present.mixer → unbroken box ss s ≡ true → Moves (after_all box ss s).state.present.mixer
+steps-move : (ss : List (Step Lent Call)) (s : Lined) → Moves s.present.mixer → unbroken box ss s ≡ true → Moves (after_all box ss s).present.mixer
 unfolding unbroken after_all
 steps-move [] s k u = k
-steps-move (frame f ∷ ss) s k u = steps-move ss (framed f s) (same-moves (box-lawful.advances f s) (advance-moves s.state.present.mixer k)) u
+steps-move (frame f ∷ ss) s k u = steps-move ss (framed f s) (same-moves (box-lawful.advances f s) (advance-moves s.present.mixer k)) u
 steps-move (call c ∷ ss) s k u = let g = both (goes_on c s) u in steps-move ss (called c s) (same-moves (box-lawful.leaves c s g.0) k) g.1
 
 -- ---- a fade that is accepted
@@ -149,17 +149,17 @@ begun-step m bytes id ms adsr = by_count (ltb m.n 2)
     by_count true = none 5 m
     by_count false = by-entry (found_given m.bank bytes id)
 
-module _ (s : Sounder) (bytes : List ℕ) (id ms : ℕ) (adsr : AdsrSpec) (a : told (faded_on s.state bytes id ms adsr).outcome ≡ passed) where
-  accepted-moves : Moves (F.faded_on s.state.present.mixer bytes id ms adsr).mixer
-  accepted-moves x = by_call (on-or-not s.state.present.mixer bytes id ms adsr)
+module _ (s : Lined) (bytes : List ℕ) (id ms : ℕ) (adsr : AdsrSpec) (a : told (faded_on s bytes id ms adsr).gave ≡ passed) where
+  accepted-moves : Moves (F.faded_on s.present.mixer bytes id ms adsr).mixer
+  accepted-moves x = by_call (on-or-not s.present.mixer bytes id ms adsr)
     where
-      by_call : OnOrNot s.state.present.mixer (F.faded_under true s.state.present.mixer bytes id ms adsr) (F.faded_on s.state.present.mixer bytes id ms adsr)
-          → 1 ≤ (F.faded_on s.state.present.mixer bytes id ms adsr).mixer.crossfade_step_q8
+      by_call : OnOrNot s.present.mixer (F.faded_under true s.present.mixer bytes id ms adsr) (F.faded_on s.present.mixer bytes id ms adsr)
+          → 1 ≤ (F.faded_on s.present.mixer bytes id ms adsr).mixer.crossfade_step_q8
       by_call (turned n e o) = never (sym (ap turned_down a) ∙ ap (λ (c : Changed). turned_down (told c.outcome)) e)
-      by_call (began d e) = rw e (begun-step s.state.present.mixer bytes id ms adsr (rw e at d))
+      by_call (began d e) = rw e (begun-step s.present.mixer bytes id ms adsr (rw e at d))
 
-  accepted-on : (h : History) → (faded_now true (faded_on s.state bytes id ms adsr).outcome h).marks.sounds_on ≡ true
-  accepted-on h = go (faded_on s.state bytes id ms adsr).outcome a
+  accepted-on : (h : History) → (faded_now true (faded_on s bytes id ms adsr).gave h).marks.sounds_on ≡ true
+  accepted-on h = go (faded_on s bytes id ms adsr).gave a
     where
       go : (o : Result (Unit {0}) AudioError) → told o ≡ passed → (faded_now true o h).marks.sounds_on ≡ true
       go (Ok tt) e = refl
@@ -167,13 +167,13 @@ module _ (s : Sounder) (bytes : List ℕ) (id ms : ℕ) (adsr : AdsrSpec) (a : t
 
 -- "the sound goes on": after any steps from an opening a fade of the second call is accepted, and comes, among others that let it go on, to its last frame, f
 pub fade-sounds-on : (n : ℕ) (config : AudioConfig) (policy : VoiceStealingPolicy) (ss ts : List (Step Lent Call)) (bytes : List ℕ) (id ms : ℕ) (adsr : AdsrSpec) (f : Lent)
-    → let s = after_all box ss (opened n config policy).sounder in
-    let begun = (faded_on s.state bytes id ms adsr).sounder in
-    told (faded_on s.state bytes id ms adsr).outcome ≡ passed → unbroken box ts begun ≡ true
-    → frames_in ts + 1 ≡ fade_count (fade_step ms s.state.present.mixer.config.sample_rate_hz) → SoundsOn f (after_all box ts begun)
+    → let s = after_all box ss (opened n config policy).lined in
+    let begun = (faded_on s bytes id ms adsr).lined in
+    told (faded_on s bytes id ms adsr).gave ≡ passed → unbroken box ts begun ≡ true
+    → frames_in ts + 1 ≡ fade_count (fade_step ms s.present.mixer.config.sample_rate_hz) → SoundsOn f (after_all box ts begun)
 unfolding settled
 fade-sounds-on n config policy ss ts bytes id ms adsr f a u e =
-    let first = (opened n config policy).sounder in
+    let first = (opened n config policy).lined in
     let s = after_all box ss first in
     let c = fade_on bytes id ms adsr in
     let h = history_of ss first unstarted in

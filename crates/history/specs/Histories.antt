@@ -13,7 +13,7 @@ use Rattle.steps.specs.Steps as S
 use Rattle.steps.specs.Steps.{play, tone, poly_blep, bank, pan, master_gain, stop, fade, look}
 use Rattle.sounder.specs.Calls.{played, begun_by, faded, faded_on}
 use Rattle.sounder.specs.Steps.{Lent, framed, Call, by01, fade_on, leave, withdraw, called}
-use Rattle.sounder.specs.declared.Sounder.{Sounder}
+use Rattle.entering.specs.declared.Lined.{Lined}
 use Rattle.waiting.specs.Lines.{in_line}
 use Rattle.waiting.specs.declared.Waiting.{Waiting}
 use Rattle.error.specs.declared.AudioError.{AudioError}
@@ -43,8 +43,8 @@ faded_now on (Ok tt) h = begun_now on (started_now 1 h)
 faded_now on (Err e) h = h
 
 -- "Tone and PolyBLEP starts count as starts"; a fade starts voice 1. A stop gives the master the present rule.
-abbrev pub called_now01 : S.Call → Sounder → History → History
-called_now01 (play bytes r) s h = handed_now (told (played s.state bytes r).outcome) h
+abbrev pub called_now01 : S.Call → Lined → History → History
+called_now01 (play bytes r) s h = handed_now (told (played s bytes r).gave) h
 called_now01 (tone hz ms waveform) s h = started_now 0 h
 called_now01 (poly_blep hz ms waveform) s h = started_now 0 h
 called_now01 (bank rate count len) s h = h
@@ -52,12 +52,12 @@ called_now01 (pan i q) s h = h
 called_now01 (master_gain gain) s h = h
 called_now01 stop s h =
     record { marks = record { voices = h.marks.voices; master = true; sounds_on = h.marks.sounds_on }; clock = h.clock }
-called_now01 (fade bytes id ms adsr) s h = faded_now false (faded s.state bytes id ms adsr).outcome h
+called_now01 (fade bytes id ms adsr) s h = faded_now false (faded s bytes id ms adsr).gave h
 called_now01 look s h = h
 
-abbrev pub called_now : Call → Sounder → History → History
+abbrev pub called_now : Call → Lined → History → History
 called_now (by01 c) s h = called_now01 c s h
-called_now (fade_on bytes id ms adsr) s h = faded_now true (faded_on s.state bytes id ms adsr).outcome h
+called_now (fade_on bytes id ms adsr) s h = faded_now true (faded_on s bytes id ms adsr).gave h
 called_now (leave label r) s h = h
 called_now (withdraw label) s h = h
 
@@ -73,16 +73,16 @@ abbrev pub advanced_now : Present → History → History
 advanced_now p h = record { marks = marks_advanced p.mixer h.marks; clock = h.clock }
 
 -- "At the start of a frame, before the fade advances"
-abbrev pub framed_now : Lent → Sounder → History → History
-framed_now f s h = advanced_now (entered_in f.bytes s.state).present (entered_now f.bytes s.state.present (in_line s.state.line) h)
+abbrev pub framed_now : Lent → Lined → History → History
+framed_now f s h = advanced_now (entered_in f.bytes s).present (entered_now f.bytes s.present (in_line s.line) h)
 
 -- after calls and frames in any order
-unfoldable pub history_of : List (Step Lent Call) → Sounder → History → History
+unfoldable pub history_of : List (Step Lent Call) → Lined → History → History
 history_of [] s h = h
 history_of (frame f ∷ ss) s h = history_of ss (framed f s) (framed_now f s h)
 history_of (call c ∷ ss) s h = history_of ss (called c s) (called_now c s h)
 
 -- the box is what its history says: beside an audible voice its rule, and how many audible voices were started before it; and which call began the
 -- last fade
-abbrev pub ByHistory : Sounder → History → Type 0
-ByHistory s h = settled (beside s.state.present.mixer h.marks) ≡ s.state.present
+abbrev pub ByHistory : Lined → History → Type 0
+ByHistory s h = settled (beside s.present.mixer h.marks) ≡ s.present

@@ -8,12 +8,13 @@ ghost use Rattle.input_lines.specs.Lines.{lined, Fills};
 // Not an Option of the length: where the line goes on, its length is wanted too.
 #[derive(Clone, Copy, Debug, PartialEq, Eq)]
 pub struct Filled {
-    pub line: usize,
+    pub line: usize, // the line itself is its caller's memory, since there is no heap
     pub next: usize,
     pub ended: bool,
 }
 
 // Bytes of the chunk, from a place on, go onto a line of which some bytes are kept already.
+// By index: tried `enumerate().skip(from)`, and the proof did not close, since that loop's state is an iterator within an iterator.
 pub fn fill(line: &mut [u8], at: usize, chunk: &[u8], from: usize) -> Filled
     ensures { Fills (lined line.old at from (drop from chunk.now)) line.new result }
 {

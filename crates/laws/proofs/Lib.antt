@@ -12,6 +12,7 @@
 --               drop-map_first, take-map_first, map_first-same; getD-any; what holds of each: all-set, all-get, all-map_first, all-map, all-imp, all-take, all-replicate
 --     Runs      steps in two parts: after-parts, given-parts
 --     Stores    steps that give a cell each, stored as they come: Wrote, wrote-none, wrote-one, wrote-more, front-one, length-cells; held-one, sets-front
+--     Parts     a part of a block that is lent and filled: part-length, part-sets, wrote-all
 --     F32       float tests as facts about numbers: or-le, nor-lt, le-or, or-ge, nor-gt; cut quotients: cut-ge, cut-lt;
 --               literals: zero-is, one-is
 --     Rounding  what rounding gives: nonNeg, not-below-zero, round-non_neg, round-up, round-down; a float is what its own fraction rounds to: own
@@ -25,5 +26,6 @@ pub mod Finite
 pub mod Lists
 pub mod Runs
 pub mod Stores
+pub mod Parts
 pub mod F32
 pub mod Rounding

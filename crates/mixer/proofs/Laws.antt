@@ -1,10 +1,10 @@
 -- Each definition keeps a state valid, and what a turn of each loop over the voices does. Assumes nothing.
 use Rattle.std.specs.Prelude.{None, Some}
-use Prim.Native.Nat.{ℕ, suc, ◌+◌, ◌≤◌, ◌<◌}
+use Prim.Native.Nat.{ℕ, zero, suc, ◌+◌, ◌≤◌, ◌<◌}
 use native.Mathlib.Omega.{arith}
-use mathlib.Core.Path.{◌≡◌, refl}
+use mathlib.Core.Path.{◌≡◌, refl, ap}
 use mathlib.Core.Bool.{true, false}
-use mathlib.Core.List.{List}
+use mathlib.Core.List.{List, [], ◌∷◌, ◌++◌}
 use borrow.Author.Tests.{lt-ltb, le-ltb}
 use lib.ListN.{length, get_or, take, drop, set, length-set}
 use lib.Seq.{drop-set-lt}
@@ -173,3 +173,14 @@ valid-holding b h k =
     }
 
 pub ruleset valid_states = (valid-closed, valid-fresh, valid-gain, valid-stopped, valid-holding, valid-panned)
+
+-- the first n of a list, by themselves
+pub all-front : {A : Type 0} (P : A → Type 0) (n : ℕ) (l : List A) → All P l → All P (take n l)
+all-front P zero l a = tt
+all-front P (suc n) [] a = tt
+all-front P (suc n) (x ∷ l) a = (a.0, all-front P n l a.1)
+
+pub first-front : {A : Type 0} (f : A → A) (n : ℕ) (l : List A) → map_first f n (take n l) ++ drop n l ≡ map_first f n l
+first-front f zero l = refl
+first-front f (suc n) [] = refl
+first-front f (suc n) (x ∷ l) = ap (λ (r : List _). f x ∷ r) (first-front f n l)

@@ -90,6 +90,8 @@ fn audible_in(voices: &[Voice]) -> usize
     voices.iter().filter(|v| v.is_audible()).count()
 }
 
+// `Valid self` stays a fact of the contracts: a `Present` holds a Mixer and goes by value, and a Copy struct that holds a struct with a model is not
+// copied in a proof (tried with the parts of a Mixer: `voice_pan` did not close).
 impl Mixer {
     #[tactic(auto, using(laws::proofs::Made::made, crate::proofs::Laws::valid_states), unfolding(crate::specs::Mixers::opened))]
     pub fn open(n: usize, config: AudioConfig, policy: VoiceStealingPolicy) -> Changed
@@ -169,16 +171,17 @@ impl Mixer {
         requires { Valid self }
         ensures { Made Valid (stopped self) result }
     {
-        let mut out = Mixer {
+        let mut voices = self.voices;
+        for voice in &mut voices[..self.n] {
+            *voice = voice.stop_immediate();
+        }
+        Mixer {
+            voices,
             mapper: self.mapper.reset(),
             crossfade_step_q8: 0,
             crossfade_active: false,
             ..self
-        };
-        for i in 0..self.n {
-            out.voices[i] = out.voices[i].stop_immediate();
         }
-        out
     }
 
     // The bank's bytes are len in number; they are lent to each call that reads them.

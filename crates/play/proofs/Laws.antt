@@ -21,7 +21,9 @@ use Rattle.voice.proofs.Laws as L
 use Rattle.mixer.specs.declared.Changed.{Changed}
 use Rattle.mixer.specs.declared.Mixer.{Mixer}
 use Rattle.mixer.specs.Mixers.{Valid, with_voices, unchanged}
-use Rattle.error.proofs.Told.{refusal-number}
+use Rattle.error.proofs.Told.{refusal-number, value-is, not-refused}
+use Rattle.start.proofs.Laws.{at-rate}
+use Rattle.config.proofs.Laws.{step-least}
 use Rattle.mixer.proofs.Laws.{valid-voice, valid-stored}
 use Rattle.allocate.proofs.Choice.{allocated-below}
 use Rattle.play.specs.Plays.{first_sounding}
@@ -113,3 +115,10 @@ on-or-not m bytes id ms adsr = by_count (ltb m.n 2)
     by_count false = by-entry (found_given m.bank bytes id)
 
 pub ruleset placing = (valid-stored, allocated-below, refusal-number)
+
+-- what the tactics of a voice put first, and of a fade that begins, apply
+pub ruleset sounding = (valid-first, first-there, first-none)
+
+pub ruleset started = (at-rate, value-is, not-refused)
+
+pub ruleset fading = (valid-voice, valid-released, released-there, released-count, valid-begun, step-least, refusal-number)

@@ -12,6 +12,7 @@ use mixer::{Changed, Mixer};
 use start::Request;
 use voice::Voice;
 
+#[tactic(auto, using(laws::proofs::Made::made, crate::proofs::Laws::fading))]
 fn first_released(m: Mixer) -> Mixer
     requires valid { Valid m }
     requires le_n { 2 ≤ m.n }
@@ -24,6 +25,7 @@ fn first_released(m: Mixer) -> Mixer
 }
 
 // Voice 1 becomes v, and the fade to it begins.
+#[tactic(auto, using(laws::proofs::Made::made, crate::proofs::Laws::fading), unfolding(crate::specs::Fades::begun))]
 fn begun(m: Mixer, v: Voice, step: u8) -> Mixer
     requires valid { Valid m }
     requires le_n { (2 ≤ m.n) × (1 ≤ step) × S.Valid v }
@@ -40,6 +42,7 @@ fn begun(m: Mixer, v: Voice, step: u8) -> Mixer
 }
 
 // With voice 0 released: the voice that started, or why none did.
+#[tactic(auto, using(crate::proofs::Laws::fading), unfolding(crate::specs::Fades::faded_by))]
 fn faded_by(m: Mixer, duration_ms: u16, started: Result<Voice, AudioError>) -> Changed
     requires valid { Valid m }
     requires le_n { (2 ≤ m.n) × ValidTold S.Valid (told started) }
@@ -59,6 +62,8 @@ fn faded_by(m: Mixer, duration_ms: u16, started: Result<Voice, AudioError>) -> C
     }
 }
 
+// `parted` tells whether a refusal of the start has the present numbers; the definition of a start takes the same Bool, and an enum would say no more.
+#[tactic(auto, using(crate::proofs::Laws::fading), unfolding(crate::specs::Fades::faded_under))]
 pub fn crossfade_to(
     m: Mixer,
     bytes: &[u8],
@@ -91,6 +96,7 @@ pub fn crossfade_to(
 }
 
 // The fade after which voice 0 sounds on: voice 1 is started first, so that a refusal changes nothing.
+#[tactic(auto, using(crate::proofs::Laws::fading), unfolding(crate::specs::Fades::faded_on, crate::specs::Fades::faded_by))]
 pub fn crossfade_sounding_on(
     m: Mixer,
     bytes: &[u8],

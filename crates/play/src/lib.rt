@@ -18,13 +18,18 @@ use voice::Voice;
 pub mod fades;
 pub mod places;
 
+// A state and the voice that a request got. Its contracts name the state, which a generic pair would not.
 #[derive(Clone, Copy)]
 pub struct Played {
     pub outcome: Result<usize, AudioError>,
     pub mixer: Mixer,
 }
 
+// `Valid m` stands in each contract and in no `impl Model`: a Copy struct holds a mixer's state and is passed by value and used again, which a proof does
+// not follow where a part has a model.
+
 // Voice 0, if there is one, becomes v.
+#[tactic(auto, using(laws::proofs::Made::made, crate::proofs::Laws::sounding))]
 fn first_sounding(m: Mixer, v: Voice) -> Mixer
     requires valid { Valid m }
     requires valid_2 { S.Valid v }
@@ -68,6 +73,7 @@ pub fn play_request(m: Mixer, bytes: &[u8], request: Request) -> Played
 }
 
 // At an engine's rate a tone starts: the other arm is not reached.
+#[tactic(auto, using(crate::proofs::Laws::started), unfolding(crate::specs::Plays::toned))]
 pub fn play_tone(m: Mixer, freq_hz: u32, duration_ms: u16, waveform: Waveform) -> Mixer
     requires { Valid m }
     ensures { Made Valid (toned m freq_hz duration_ms waveform) result }
@@ -78,6 +84,7 @@ pub fn play_tone(m: Mixer, freq_hz: u32, duration_ms: u16, waveform: Waveform) -
     }
 }
 
+#[tactic(auto, using(crate::proofs::Laws::started), unfolding(crate::specs::Plays::poly_bleped))]
 pub fn play_polyblep(m: Mixer, freq_hz: u32, duration_ms: u16, waveform: PolyBlepWaveform) -> Mixer
     requires { Valid m }
     ensures { Made Valid (poly_bleped m freq_hz duration_ms waveform) result }

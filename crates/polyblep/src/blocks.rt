@@ -1,5 +1,5 @@
 // A block of samples at once. Each waveform has a loop of its own, so that the waveform is looked at once a block.
-ghost use Rattle.std.specs.Prelude.{◌≡◌, ◌≤◌, min, true, T, Float};
+ghost use Rattle.std.specs.Prelude.{◌≡◌, ◌≤◌, min, true, T, Float, length};
 ghost use Rattle.tone.specs.Blocks.{Waved};
 ghost use Rattle.polyblep.specs.Blocks.{BlepBlock, moved, cut_at, cut_of};
 ghost use Rattle.polyblep.specs.Waves.{sine_part, sawtooth, square, triangle};
@@ -18,7 +18,7 @@ fn cut(s: f32) -> i8
     cast::truncated(fixed::clamp_f32(s, -1.0, 1.0))
 }
 
-// A waveform as a type, for which the loop below is made.
+// A waveform as a type, for which the loop below is made. A phase is a float in a range; a struct round it would be unwrapped in each formula.
 trait Wave {
     ghost value: { Float → Float → Float };
 
@@ -67,38 +67,38 @@ impl Wave for Triangle {
     }
 }
 
-// n samples from the phase on, and the phase after them.
-fn fill_with<W: Wave>(phase: f32, inc: f32, n: usize, out: &mut [i8; 256]) -> f32
-    requires few { n ≤ 256 }
+// A sample in each cell, from the phase on, and the phase after them.
+fn fill_with<W: Wave>(phase: f32, inc: f32, out: &mut [i8]) -> f32
     requires phase { T (is_phase phase) }
     requires step { T (is_step inc) }
-    ensures { Waved (moved inc) (λ p. cut_of (W.value p inc)) n phase out.old result out.new }
+    ensures { Waved (moved inc) (λ p. cut_of (W.value p inc)) (length out.old) phase out.old result out.new }
 {
     let mut p = phase;
-    for k in 0..n {
-        out[k] = cut(W::at(p, inc));
+    for cell in out {
+        *cell = cut(W::at(p, inc));
         p = advance_phase(p, inc);
     }
     p
 }
 
 #[tactic(auto, unfolding(crate::specs::Waves::shape, crate::specs::Waves::sample_at))]
-fn fill_wave(waveform: PolyBlepWaveform, phase: f32, inc: f32, n: usize, out: &mut [i8; 256]) -> f32
-    requires few { n ≤ 256 }
+fn fill_wave(waveform: PolyBlepWaveform, phase: f32, inc: f32, out: &mut [i8]) -> f32
     requires phase { T (is_phase phase) }
     requires step { T (is_step inc) }
-    ensures { Waved (moved inc) (cut_at waveform inc) n phase out.old result out.new }
+    ensures { Waved (moved inc) (cut_at waveform inc) (length out.old) phase out.old result out.new }
 {
     match waveform {
-        PolyBlepWaveform::Sine => fill_with::<Sine>(phase, inc, n, out),
-        PolyBlepWaveform::Sawtooth => fill_with::<Sawtooth>(phase, inc, n, out),
-        PolyBlepWaveform::Square => fill_with::<Square>(phase, inc, n, out),
-        PolyBlepWaveform::Triangle => fill_with::<Triangle>(phase, inc, n, out),
+        PolyBlepWaveform::Sine => fill_with::<Sine>(phase, inc, out),
+        PolyBlepWaveform::Sawtooth => fill_with::<Sawtooth>(phase, inc, out),
+        PolyBlepWaveform::Square => fill_with::<Square>(phase, inc, out),
+        PolyBlepWaveform::Triangle => fill_with::<Triangle>(phase, inc, out),
     }
 }
 
+// `ValidVoice self` stays, as lib.rt says of `Valid`.
 impl PolyBlepVoice {
     // len requests: what is given is how many of them, the first ones, gave a sample, written from the front on. Past 256 nothing is asked for.
+    // A block is lent, since there is no heap, and has one size for all sources.
     pub fn fill(self, len: usize, out: &mut [i8; 256]) -> Step<PolyBlepVoice, usize>
         requires { ValidVoice self }
         ensures { BlepBlock self (min len 256) out.old result out.new }
@@ -121,7 +121,7 @@ impl PolyBlepVoice {
     {
         let given = tone::given_of(self.samples_left, len);
         let o = self.osc;
-        let phase = fill_wave(o.waveform, o.phase, o.phase_inc, given, out);
+        let phase = fill_wave(o.waveform, o.phase, o.phase_inc, &mut out[..given]);
         let osc = PolyBlepOscillator { phase, ..o };
         let voice = PolyBlepVoice {
             osc,

@@ -51,7 +51,7 @@ fn arch_f32(sign: f32, y: f32) -> f32
 }
 
 // The source's `sin_f32(t * 2.0 * PI)`. Its remainder by 2 PI and the turn of a negative angle change nothing at a phase of
-// 0..1 (proofs/Turn.antt), so neither is computed here.
+// 0..1 (proofs/Turn.antt), so neither is computed here. A plain float, as waves.rt says.
 pub(crate) fn sine_part(t: f32) -> f32
     requires { T (is_phase t) }
     ensures { result ≡ sine_part t }

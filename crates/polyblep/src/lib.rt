@@ -68,6 +68,8 @@ impl Default for PolyBlepOscillator {
     }
 }
 
+// `Valid self`, and a voice's `ValidVoice self`, stay facts of the contracts. A model was tried and proved here, but a Copy struct that holds one
+// is not copied in a proof when used again, so the proofs of mixer, marks and allocate did not close.
 impl PolyBlepOscillator {
     pub fn new(freq_hz: u32, sample_rate_hz: u32, waveform: PolyBlepWaveform) -> PolyBlepOscillator
         ensures { Made Valid (new_oscillator freq_hz sample_rate_hz waveform) result }
@@ -170,7 +172,7 @@ impl PolyBlepOscillator {
 pub struct PolyBlepVoice {
     osc: PolyBlepOscillator,
     samples_left: u32,
-    active: bool,
+    active: bool, // a field of the source
 }
 
 impl Default for PolyBlepVoice {

@@ -47,6 +47,7 @@ impl PolyBlepOscillator {
     }
 }
 
+// `active` is the source's field, and chooses no step here.
 impl PolyBlepVoice {
     #[tactic(auto, unfolding(crate::specs::Restores::restored_voice))]
     pub fn restored(

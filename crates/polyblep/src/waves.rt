@@ -1,4 +1,4 @@
-// The waveforms at a phase and a step.
+// The waveforms at a phase and a step, plain floats: a struct round a phase of 0..1 would be unwrapped in each formula.
 ghost use Rattle.std.specs.Prelude.{◌≡◌, T};
 ghost use Rattle.polyblep.specs.Ranges.{is_phase};
 ghost use Rattle.polyblep.specs.Waves.{sawtooth, half_turn, square, triangle, shape, sample_at};

@@ -1,12 +1,16 @@
--- Bytes held back, and a line's cells behind them. Assumes nothing.
+-- Bytes held back, a line's cells behind them, and when a header is given. Assumes nothing.
 use Rattle.std.proofs.Common.{◌≡◌, ℕ, ◌+◌, ◌*◌, ◌/◌, ◌≤◌, Bool, true, false, cond, leb, List, ◌++◌, length, take, drop, ℤ, refl, ◌∙◌, append_assoc, arith, length-append, take_all, take_at, leb-true}
 use Rattle.wav.specs.Wav.{cell_bytes, fitting, Laid}
 use Rattle.wav.proofs.Bytes.{length-cells}
+use Rattle.wav.proofs.Files.{fits-some, fits-none}
 use Rattle.render.specs.Files.{held_count}
 
 few : (t : Bool) (held : ℕ) → (t ≡ true → held ≤ 57344) → cond t held 0 ≤ 57344
 few true held h = h refl
 few false held h = omega arith
+
+-- a header is given where its numbers fit
+pub ruleset headers = (fits-some, fits-none)
 
 -- so that a line's cells have room after them
 pub few-held : (held : ℕ) → held_count held ≤ 57344

@@ -1,10 +1,10 @@
 -- The sound file as it is kept, and times in it. Assumes nothing.
-use Rattle.std.specs.Prelude.{◌≡◌, ℕ, ◌+◌, ◌*◌, ◌/◌, min, Bool, true, false, cond, not, ◌&&◌, List, ◌++◌, length, take, ℤ, ◌==◌, nat_le, nat_lt, IsErr}
+use Rattle.std.specs.Prelude.{◌≡◌, ℕ, ◌+◌, ◌*◌, ◌/◌, min, Bool, cond, not, Result, Ok, Err, ◌&&◌, List, ◌++◌, length, take, ℤ, ◌==◌, nat_le, nat_lt, IsErr}
 use Rattle.wav.specs.Wav.{wav_fits, cell_bytes}
 use Rattle.render_texts.specs.declared.Clock.{Clock}
-use Rattle.render.specs.declared.file.SoundFile.{SoundFile}
-use Rattle.render.specs.declared.file.Room.{Room}
-use Rattle.render.specs.declared.file.Room.TheVariants as R
+use Rattle.render.specs.declared.sound_file.SoundFile.{SoundFile}
+use Rattle.render.specs.declared.file.Misfit.{Misfit}
+use Rattle.render.specs.declared.file.Misfit.TheVariants as M
 
 -- how many times 10 s have passed
 abbrev pub tens_of : Clock → ℕ
@@ -27,18 +27,12 @@ abbrev pub other_rate : Clock → ℕ → Bool
 other_rate c rate = nat_lt 0 c.frames && not (c.rate == rate)
 
 -- a sound file has one rate, which is not 0, and sizes of 32 bits
-unfoldable pub room_for : Clock → ℕ → ℕ → Room
+unfoldable pub room_for : Clock → ℕ → ℕ → Result (Unit {0}) Misfit
 room_for c rate cells =
-    cond (rate == 0) R.NoRate
-    (cond (other_rate c rate) R.OtherRate
-    (cond (wav_fits rate (more_frames c.frames (cells / 2))) R.Fits
-    R.TooLong))
-
-abbrev pub fits : Room → Bool
-fits R.Fits = true
-fits R.NoRate = false
-fits R.OtherRate = false
-fits R.TooLong = false
+    cond (rate == 0) (Err M.NoRate)
+    (cond (other_rate c rate) (Err M.OtherRate)
+    (cond (wav_fits rate (more_frames c.frames (cells / 2))) (Ok tt)
+    (Err M.TooLong)))
 
 -- of 65,536 bytes so many are held back; they are written once a line's cells, 8,192 bytes, might not have room after them
 abbrev pub held_count : ℕ → ℕ

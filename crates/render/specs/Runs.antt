@@ -1,8 +1,9 @@
--- What stays true of a run over a script's lines. Assumes nothing.
-use Rattle.std.specs.Prelude.{◌≤◌}
-use Rattle.replay_session.specs.Sessions.{ValidSession}
-use Rattle.render.specs.declared.runs.Run.{Run}
+-- What is read of a run over a script's lines. Assumes nothing.
+use Rattle.std.specs.Prelude.{ℕ, None, Option, Some}
+use Rattle.replay_box.specs.Boxes.{mixer_of}
+use Rattle.replay_box.specs.declared.OpenBox.{OpenBox}
 
-pub record ValidRun (r : Run) : Type 0 where
-  pub session : ValidSession r.session
-  pub held : r.file.held ≤ 65536
+-- the rate of the box that is open, or 0
+abbrev pub rate_in : Option OpenBox → ℕ
+rate_in None = 0
+rate_in (Some b) = (mixer_of b).config.sample_rate_hz

@@ -2,6 +2,7 @@
 ghost use Rattle.std.specs.Prelude.{◌≡◌, ◌≤◌, ◌↔◌, length, IsOk};
 ghost use Rattle.render.specs.Files.{more_frames, other_rate, room_for, held_count, Kept, Adds};
 
+use crate::sound_file::SoundFile;
 use render_texts::Clock;
 use std::fs::File;
 use std::io;
@@ -9,19 +10,9 @@ use std::io::Write;
 use std::os::unix::fs::FileExt;
 use wav::put_cells;
 
-// The file, its rate and frames so far, how many bytes are held back, and how the writing went.
+// Why frames cannot go on to a file.
 #[derive(Clone, Copy)]
-pub struct SoundFile<'a> {
-    pub file: &'a File,
-    pub clock: Clock,
-    pub held: usize,
-    pub written: io::Result<()>,
-}
-
-// Whether frames can go on to a file.
-#[derive(Clone, Copy)]
-pub enum Room {
-    Fits,
+pub enum Misfit {
     NoRate,
     OtherRate,
     TooLong,
@@ -30,12 +21,7 @@ pub enum Room {
 fn more_frames(frames: u32, more: usize) -> u32
     ensures { result ≡ more_frames frames more }
 {
-    let left = 0xffff_ffff - frames;
-    if more as u64 > left as u64 {
-        0xffff_ffff
-    } else {
-        frames + (more as u32)
-    }
+    frames.saturating_add(more.min(0xffff_ffff) as u32)
 }
 
 fn other_rate(c: Clock, rate: u32) -> bool
@@ -45,18 +31,19 @@ fn other_rate(c: Clock, rate: u32) -> bool
 }
 
 // Whether so many cells at a rate can go on to what a file has.
-pub fn room_for(c: Clock, rate: u32, cells: usize) -> Room
+#[tactic(auto, using(crate::proofs::Holding::headers), unfolding(crate::specs::Files::room_for))]
+pub fn room_for(c: Clock, rate: u32, cells: usize) -> Result<(), Misfit>
     ensures { result ≡ room_for c rate cells }
 {
     if rate == 0 {
-        return Room::NoRate;
+        return Err(Misfit::NoRate);
     }
     if other_rate(c, rate) {
-        return Room::OtherRate;
+        return Err(Misfit::OtherRate);
     }
     match wav::header(rate, more_frames(c.frames, cells / 2)) {
-        Some(_) => Room::Fits,
-        None => Room::TooLong,
+        Some(_) => Ok(()),
+        None => Err(Misfit::TooLong),
     }
 }
 
@@ -68,33 +55,30 @@ pub fn both(a: io::Result<()>, b: io::Result<()>) -> io::Result<()>
 }
 
 // Writes what is held back.
-pub fn flushed<'a>(f: SoundFile<'a>, kept: &[u8]) -> SoundFile<'a>
-    requires { f.held ≤ length kept.now }
+pub fn flushed<'a>(f: SoundFile<'a>, kept: &[u8; 65536]) -> SoundFile<'a>
     ensures { Kept f.entry 0 f.entry.clock result }
 {
     let n = f.held;
     let mut file = f.file;
     let written = both(f.written, file.write_all(&kept[..n]));
     SoundFile {
+        file: f.file,
+        clock: f.clock,
         held: 0,
         written,
-        ..f
     }
 }
 
 // A file with room for a line's cells.
-fn with_room<'a>(f: SoundFile<'a>, kept: &[u8]) -> SoundFile<'a>
-    requires { f.held ≤ length kept.now }
+fn with_room<'a>(f: SoundFile<'a>, kept: &[u8; 65536]) -> SoundFile<'a>
     ensures { Kept f.entry (held_count f.entry.held) f.entry.clock result }
 {
     if f.held <= 57344 { f } else { flushed(f, kept) }
 }
 
 // A line's cells, behind what is held back.
-pub fn add<'a>(f: SoundFile<'a>, rate: u32, cells: &[i16], kept: &mut [u8]) -> SoundFile<'a>
-    requires held_bound { f.held ≤ 65536 }
-    requires cells_len_bound { length cells.now ≤ 4096 }
-    requires kept_len { length kept.old ≡ 65536 }
+pub fn add<'a>(f: SoundFile<'a>, rate: u32, cells: &[i16], kept: &mut [u8; 65536]) -> SoundFile<'a>
+    requires { length cells.now ≤ 4096 }
     ensures { Adds f.entry rate cells.now kept.old kept.new result }
 {
     let g = with_room(f, &*kept);
@@ -106,9 +90,10 @@ pub fn add<'a>(f: SoundFile<'a>, rate: u32, cells: &[i16], kept: &mut [u8]) -> S
         rate,
     };
     SoundFile {
+        file: g.file,
         clock,
         held: at + got,
-        ..g
+        written: g.written,
     }
 }
 

@@ -6,15 +6,17 @@ mod file;
 mod input;
 mod problems;
 mod runs;
+mod sound_file;
 
 ghost use Rattle.std.specs.Prelude.{◌≡◌, ◌≤◌};
 ghost use Rattle.render.specs.Files.{rate_of_none, last_clock};
 
-use file::{SoundFile, both, flushed, write_header};
+use file::{both, flushed, write_header};
 use input::Source;
 use render_texts::Clock;
 use replay_session::Session;
-use runs::{Place, Run, print, rate_of, read_some};
+use runs::{Buffers, Run, print, rate_of, read_some};
+use sound_file::SoundFile;
 use std::env::FillError;
 use std::fs::File;
 use std::io::Write;
@@ -76,9 +78,7 @@ fn last_clock(rt: &impl Eprint, c: Clock, rate: u32) -> Clock
 }
 
 // Writes what is held back and the header, and says how much sound there is.
-fn finish(rt: &(impl Print + Eprint), path: &str, f: SoundFile<'_>, rate: u32, kept: &[u8; 65536])
-    requires { f.held ≤ 65536 }
-{
+fn finish(rt: &(impl Print + Eprint), path: &str, f: SoundFile<'_>, rate: u32, kept: &[u8; 65536]) {
     let g = flushed(f, kept);
     let clock = last_clock(rt, g.clock, rate);
     match both(g.written, write_header(g.file, clock)) {
@@ -90,37 +90,29 @@ fn finish(rt: &(impl Print + Eprint), path: &str, f: SoundFile<'_>, rate: u32, k
 // A proved loop has to end, and nothing says that the input does: the turns are counted to a number that no run reaches.
 fn run_all(rt: &(impl Print + Eprint), path: &str, input: &mut Source, file: &File) {
     let mut line = [0u8; 8195];
-    let mut lent = [0u8; 4096];
-    let mut out = [0u8; 262144];
-    let mut cells = [0i16; 4096];
-    let mut kept = [0u8; 65536];
-    let clock = Clock { frames: 0, rate: 0 };
-    let place = Place {
-        line: 0,
-        number: 0,
-        more: true,
+    let mut b = Buffers {
+        out: [0; 262144],
+        cells: [0; 4096],
+        kept: [0; 65536],
     };
     let file = SoundFile {
         file,
-        clock,
+        clock: Clock { frames: 0, rate: 0 },
         held: 0,
         written: Ok(()),
     };
     let mut r = Run {
-        place,
+        line: 0,
+        number: 0,
         file,
         session: Session::new(),
     };
     for _ in 0..u64::MAX {
-        if !r.place.more {
+        if read_some(rt, input, &mut r, &mut line, &mut b).is_none() {
             break;
         }
-        r = read_some(
-            rt, input, r, &mut line, &mut lent, &mut out, &mut cells, &mut kept,
-        );
     }
-    let f = r.file;
-    finish(rt, path, f, rate_of(r.session), &kept);
+    finish(rt, path, r.file, rate_of(&r.session), &b.kept);
 }
 
 // The header goes first, with no frames, so that the cells stand behind it.

@@ -1,8 +1,8 @@
 // What goes to standard error: what is refused, and how far a long run is.
-ghost use Rattle.std.specs.Prelude.{◌≡◌};
-ghost use Rattle.render.specs.Files.{tens_of, fits};
+ghost use Rattle.std.specs.Prelude.{◌≡◌, ◌↔◌, IsOk, IsSome};
+ghost use Rattle.render.specs.Files.{tens_of};
 
-use crate::file::Room;
+use crate::file::Misfit;
 use render_texts::Clock;
 use std::io::{Cursor, Write};
 use std::{io, str};
@@ -57,32 +57,21 @@ pub fn fail(rt: &impl Eprint, what: &str, error: io::Error) {
 }
 
 // Says why frames cannot go on to the file, and answers whether they can.
-pub fn has_room(rt: &impl Eprint, r: Room, number: u64) -> bool
-    ensures { result ≡ fits r }
+pub fn has_room(rt: &impl Eprint, room: Result<(), Misfit>, number: u64) -> Option<()>
+    ensures { IsSome result ↔ IsOk room }
 {
-    match r {
-        Room::Fits => true,
-        Room::NoRate => {
-            at_line(rt, number, "frames at rate 0; the sound up to here is kept");
-            false
+    let Err(why) = room else {
+        return Some(());
+    };
+    let words = match why {
+        Misfit::NoRate => "frames at rate 0; the sound up to here is kept",
+        Misfit::OtherRate => {
+            "a file has one rate, and the rate changed after its first frame; the sound up to here is kept"
         }
-        Room::OtherRate => {
-            at_line(
-                rt,
-                number,
-                "a file has one rate, and the rate changed after its first frame; the sound up to here is kept",
-            );
-            false
-        }
-        Room::TooLong => {
-            at_line(
-                rt,
-                number,
-                "the file would pass 4 GiB; the sound up to here is kept",
-            );
-            false
-        }
-    }
+        Misfit::TooLong => "the file would pass 4 GiB; the sound up to here is kept",
+    };
+    at_line(rt, number, words);
+    None
 }
 
 fn tens(c: Clock) -> u64

@@ -1,47 +1,37 @@
 // A run over a script's lines: each is answered, told in the account and heard in the file.
 ghost use Rattle.std.specs.Prelude.{◌≡◌, ◌≤◌, length};
-ghost use Rattle.replay_box.specs.Boxes.{mixer_of};
-ghost use Rattle.replay_session.specs.Sessions.{ValidSession};
-ghost use Rattle.render.specs.Runs.{ValidRun};
+ghost use Rattle.render.specs.Runs.{rate_in};
 
-use crate::file::{SoundFile, add, room_for};
+use crate::file::{add, room_for};
 use crate::input::Source;
 use crate::problems;
+use crate::sound_file::SoundFile;
 use render_texts::{Clock, Text};
 use replay_session::Session;
 use std::io::Read;
-use std::num::wrapping_add_u64;
 
-// How much of a line is kept, how many lines there were, and whether the run goes on.
-#[derive(Clone, Copy)]
-pub struct Place {
+// How much of a line is kept (in a fixed buffer: there is no heap), how many lines there were, the sound, and the session.
+#[derive(Drop)]
+pub struct Run<'a> {
     pub line: usize,
     pub number: u64,
-    pub more: bool,
-}
-
-#[derive(Clone, Copy)]
-pub struct Run<'a> {
-    pub place: Place,
     pub file: SoundFile<'a>,
     pub session: Session,
 }
 
-pub fn stopped<'a>(r: Run<'a>) -> Run<'a>
-    requires { ValidRun r }
-    ensures { ValidRun result }
-{
-    let p = r.place;
-    let place = Place { more: false, ..p };
-    Run { place, ..r }
+// An answer, a line's cells, and the cells' bytes that are held back.
+#[derive(Drop)]
+pub struct Buffers {
+    pub out: [u8; 262144],
+    pub cells: [i16; 4096],
+    pub kept: [u8; 65536],
 }
 
-pub fn rate_of(s: Session) -> u32
-    ensures { result ≡ (mixer_of s.held).config.sample_rate_hz }
+// The rate of the box that is open, or 0.
+pub fn rate_of(s: &Session) -> u32
+    ensures { result ≡ rate_in s.now.held }
 {
-    let b = s.held();
-    let c = b.config();
-    c.sample_rate_hz
+    s.held().map_or(0, |b| b.config().sample_rate_hz)
 }
 
 pub fn print(rt: &impl Print, t: Text)
@@ -51,206 +41,116 @@ pub fn print(rt: &impl Print, t: Text)
     let _ = rt.write_all(&bytes[..t.len]);
 }
 
-fn told(rt: &impl Print, l: &[u8], answer: &[u8], before: Session, c: Clock)
-    requires { ValidSession before }
-{
+fn told(rt: &impl Print, l: &[u8], answer: &[u8], before: &Session, c: Clock) {
     print(rt, render_account::tell(l, answer, before.held(), c));
     print(rt, render_account::waits::tell_waiting(l, answer, c));
 }
 
 // Who left the line while the line's frames were made.
-fn moved(rt: &impl Print, before: Session, after: Session, c: Clock) {
-    print(
-        rt,
-        render_account::waits::tell_moved(before.held(), after.held(), c),
-    );
-}
-
-// Answers a line and tells it in the account. A line that is no record ends the run.
-fn answered<'a>(
-    rt: &(impl Print + Eprint),
-    r: Run<'a>,
-    l: &[u8],
-    lent: &mut [u8; 4096],
-    out: &mut [u8; 262144],
-) -> Run<'a>
-    requires { ValidRun r }
-    ensures { ValidRun result }
-{
-    let p = r.place;
-    let f = r.file;
-    let before = r.session;
-    let a = replay_session::answer(l, before, lent, out);
-    if !a.more {
-        problems::bad_line(rt, p.number);
-        return stopped(r);
-    }
-    told(rt, l, &*out, before, f.clock);
-    let after = a.session;
-    Run {
-        session: after,
-        ..r
-    }
-}
-
-// A line that sounds n cells, which stand at the front.
-fn heard<'a>(
-    rt: &impl Eprint,
-    r: Run<'a>,
-    rate: u32,
-    cells: &[i16],
-    n: usize,
-    kept: &mut [u8; 65536],
-) -> Run<'a>
-    requires valid_run { ValidRun r }
-    requires cells_len { length cells.now ≡ 4096 }
-    requires n_bound { n ≤ 4096 }
-    ensures { ValidRun result }
-{
-    let p = r.place;
-    let f = r.file;
-    if !problems::has_room(rt, room_for(f.clock, rate, n), p.number) {
-        return stopped(r);
-    }
-    let file = add(f, rate, &cells[..n], kept);
-    problems::progress(rt, f.clock, file.clock);
-    let place = Place {
-        more: p.more && file.written.is_ok(),
-        ..p
-    };
-    Run { place, file, ..r }
-}
-
-// A line that made frames: its answer, and who left the line in them.
-fn framed<'a>(
-    rt: &(impl Print + Eprint),
-    r: Run<'a>,
-    l: &[u8],
-    before: Session,
-    lent: &mut [u8; 4096],
-    out: &mut [u8; 262144],
-) -> Run<'a>
-    requires { ValidRun r }
-    ensures { ValidRun result }
-{
-    let f = r.file;
-    let done = answered(rt, r, l, lent, out);
-    moved(rt, before, done.session, f.clock);
-    done
-}
-
-// One line: what it sounds like from here on, then what it does.
-fn line_done<'a>(
-    rt: &(impl Print + Eprint),
-    r: Run<'a>,
-    l: &[u8],
-    lent: &mut [u8; 4096],
-    out: &mut [u8; 262144],
-    cells: &mut [i16; 4096],
-    kept: &mut [u8; 65536],
-) -> Run<'a>
-    requires { ValidRun r }
-    ensures { ValidRun result }
-{
-    let before = r.session;
-    let n = render_sounds::sound(l, before, &*lent, cells);
-    if n == 0 {
-        return answered(rt, r, l, lent, out);
-    }
-    let h = heard(rt, r, rate_of(before), &*cells, n, kept);
-    if h.place.more {
-        framed(rt, h, l, before, lent, out)
-    } else {
-        h
-    }
-}
-
-// The line of n bytes that ended.
-fn ended<'a>(
-    rt: &(impl Print + Eprint),
-    r: Run<'a>,
-    line: &[u8],
-    n: usize,
-    lent: &mut [u8; 4096],
-    out: &mut [u8; 262144],
-    cells: &mut [i16; 4096],
-    kept: &mut [u8; 65536],
-) -> Run<'a>
-    requires { ValidRun r }
-    ensures { ValidRun result }
-{
-    if n > line.len() {
-        return stopped(r);
-    }
-    let p = r.place;
-    let place = Place {
-        line: 0,
-        number: wrapping_add_u64(p.number, 1),
-        ..p
-    };
-    let t = Run { place, ..r };
-    line_done(rt, t, &line[..n], lent, out, cells, kept)
-}
-
-// The lines that end in the chunk, and what it begins of the next. A line that fills its 8,195 bytes is bad wherever it ends.
-fn feed<'a>(
-    rt: &(impl Print + Eprint),
-    r: Run<'a>,
-    chunk: &[u8],
-    line: &mut [u8; 8195],
-    lent: &mut [u8; 4096],
-    out: &mut [u8; 262144],
-    cells: &mut [i16; 4096],
-    kept: &mut [u8; 65536],
-) -> Run<'a>
-    requires { ValidRun r }
-    ensures { ValidRun result }
-{
-    let mut t = r;
-    let mut i = 0;
-    while i < chunk.len() && t.place.more {
-        let p = t.place;
-        let f = input_lines::fill(line, p.line, chunk, i);
-        i = f.next;
-        if f.ended {
-            t = ended(rt, t, &*line, f.line, lent, out, cells, kept);
-        } else {
-            let place = Place { line: f.line, ..p };
-            t = Run { place, ..t };
+fn moved(rt: &impl Print, before: &Session, after: &Session, c: Clock) {
+    if let Some(old) = before.held() {
+        if let Some(new) = after.held() {
+            print(rt, render_account::waits::tell_moved(old, new, c));
         }
     }
-    t
 }
 
-// Reads once and does the lines that ended. At the end of the input a last line may lack its newline.
-pub fn read_some<'a>(
+// Answers a line and tells it in the account, at a time in the sound, of the session before it. None where it is no record, which ends the run.
+fn answered(
+    rt: &(impl Print + Eprint),
+    r: &mut Run<'_>,
+    l: &[u8],
+    before: &Session,
+    c: Clock,
+    b: &mut Buffers,
+) -> Option<()> {
+    let a = r.session.answer(l, &mut b.out);
+    if !a.more {
+        problems::bad_line(rt, r.number);
+        return None;
+    }
+    told(rt, l, &b.out, before, c);
+    Some(())
+}
+
+// A line's cells. None where they cannot go on to the file, or the writing goes wrong.
+fn heard(
+    rt: &impl Eprint,
+    r: &mut Run<'_>,
+    rate: u32,
+    cells: &[i16],
+    kept: &mut [u8; 65536],
+) -> Option<()>
+    requires { length cells.now ≤ 4096 }
+{
+    let before = r.file;
+    let room = room_for(before.clock, rate, cells.len());
+    problems::has_room(rt, room, r.number)?;
+    let file = add(before, rate, cells, kept);
+    problems::progress(rt, before.clock, file.clock);
+    r.file = file;
+    file.written.ok()
+}
+
+// One line: what it sounds like from here on, then what it does, and who left the line in its frames.
+fn line_done(rt: &(impl Print + Eprint), r: &mut Run<'_>, l: &[u8], b: &mut Buffers) -> Option<()> {
+    r.line = 0;
+    r.number = r.number.wrapping_add(1);
+    let before = r.session.copied();
+    let n = render_sounds::sound(l, &before, &mut b.cells);
+    if n > 0 {
+        heard(rt, r, rate_of(&before), b.cells.get(..n)?, &mut b.kept)?;
+    }
+    let c = r.file.clock;
+    answered(rt, r, l, &before, c, b)?;
+    if n > 0 {
+        moved(rt, &before, &r.session, c);
+    }
+    Some(())
+}
+
+// The lines that end in the chunk, and what it begins of the next. A line that fills its 8,195 bytes is bad wherever it ends. By the place
+// in the chunk, which is where a line stopped.
+fn feed(
+    rt: &(impl Print + Eprint),
+    r: &mut Run<'_>,
+    chunk: &[u8],
+    line: &mut [u8; 8195],
+    b: &mut Buffers,
+) -> Option<()> {
+    let mut i = 0;
+    while i < chunk.len() {
+        let f = input_lines::fill(line, r.line, chunk, i);
+        i = f.next;
+        r.line = f.line;
+        if f.ended {
+            line_done(rt, r, line.get(..f.line)?, b)?;
+        }
+    }
+    Some(())
+}
+
+// Reads once and does the lines that ended; None at the end of the run. At the end of the input a last line may lack its newline.
+pub fn read_some(
     rt: &(impl Print + Eprint),
     input: &mut Source,
-    r: Run<'a>,
+    r: &mut Run<'_>,
     line: &mut [u8; 8195],
-    lent: &mut [u8; 4096],
-    out: &mut [u8; 262144],
-    cells: &mut [i16; 4096],
-    kept: &mut [u8; 65536],
-) -> Run<'a>
-    requires { ValidRun r }
-    ensures { ValidRun result }
-{
+    b: &mut Buffers,
+) -> Option<()> {
     let mut chunk = [0u8; 65536];
     let got = match input.read(&mut chunk) {
         Ok(n) => n,
         Err(error) => {
             problems::fail(rt, "render: the script", error);
-            return stopped(r);
+            return None;
         }
     };
     if got > 0 {
-        return feed(rt, r, &chunk[..got], line, lent, out, cells, kept);
+        return feed(rt, r, &chunk[..got], line, b);
     }
-    let p = r.place;
-    if p.line == 0 {
-        return stopped(r);
+    if r.line > 0 {
+        line_done(rt, r, line.get(..r.line)?, b)?;
     }
-    let t = ended(rt, r, &*line, p.line, lent, out, cells, kept);
-    stopped(t)
+    None
 }

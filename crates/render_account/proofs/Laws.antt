@@ -12,16 +12,21 @@ use Rattle.config.specs.Config.{rounded_up, fade_step}
 use Rattle.frame.specs.Lasting.{fade_count}
 use Rattle.render_texts.specs.Texts.{words, milliseconds_of}
 use Rattle.render_texts.specs.declared.Clock.{Clock}
-use Rattle.render_texts.proofs.Whole.{either-within, words-within, decimal-within, things-within, seconds-within, tenths-within, time-within}
+use Rattle.render_texts.proofs.Whole.{whole, either-within, words-within, decimal-within, things-within, seconds-within, tenths-within, time-within}
 use Rattle.hex_digits.specs.Hex.{byte_at, wide_at, long_at}
 use Rattle.voice.specs.Voices.{audible}
 use Rattle.mixer.specs.Mixers.{voice_read}
-use Rattle.replay_box.specs.Boxes.{mixer_of, kept_in}
+use Rattle.replay_box.specs.Boxes.{is_present, mixer_of, kept_in}
 use Rattle.replay_box.specs.declared.OpenBox.{OpenBox}
 use Rattle.render_account.specs.Account as T
 use Rattle.render_account.specs.Waits as W
 use Rattle.error.specs.declared.AudioError.{AudioError}
+use Rattle.replay_fields.specs.Read.{tone_waveform, poly_blep_waveform}
 use Rattle.voice.specs.declared.Voice.{Voice}
+use Rattle.tone.specs.declared.Waveform.{Waveform}
+use Rattle.tone.specs.declared.Waveform.TheVariants as V
+use Rattle.polyblep.specs.declared.PolyBlepWaveform.{PolyBlepWaveform}
+use Rattle.polyblep.specs.declared.PolyBlepWaveform.TheVariants as B
 
 added-within : (n : ℕ) → length (T.added_text n) ≤ 55
 unfolding T.added_text
@@ -52,7 +57,7 @@ taken-within present (Some v) = either-within 56 (audible v) _ _ (from-within pr
 
 voice-within : (e : OpenBox) (voice : ℕ) → length (T.voice_text e voice) ≤ 84
 unfolding T.voice_text
-voice-within e voice = simp length-append (omega (arith, decimal-within voice, taken-within e.present (voice_read (mixer_of e) voice)))
+voice-within e voice = simp length-append (omega (arith, decimal-within voice, taken-within (is_present e) (voice_read (mixer_of e) voice)))
 
 outcome-within : (answer : List ℕ) (e : OpenBox) → length (T.outcome_text answer e) ≤ 89
 outcome-within answer e =
@@ -85,17 +90,26 @@ sounding-within l e =
     let last : length (T.voices_text (mixer_of e).n) ≤ 22 = search (words-within, leb-true) in
     simp length-append (omega (arith, decimal-within (long_at l 1), lasting-within (wide_at l 5), last))
 
+tone_name-within : (w : Waveform) → length (T.tone_name w) ≤ 8
+tone_name-within V.Square = omega arith
+tone_name-within V.Sine = omega arith
+tone_name-within V.Triangle = omega arith
+
 tone-within : (l : List ℕ) (e : OpenBox) (c : Clock) → length (T.tone_text l e c) ≤ 256
 unfolding T.tone_text
 tone-within l e c =
-    let name : length (T.tone_name (byte_at l 7)) ≤ 8 = search (words-within, leb-true) in
-    simp length-append (omega (arith, time-within c, name, sounding-within l e))
+    simp length-append (omega (arith, time-within c, tone_name-within (tone_waveform (byte_at l 7)), sounding-within l e))
+
+polyblep_name-within : (w : PolyBlepWaveform) → length (T.polyblep_name w) ≤ 8
+polyblep_name-within B.Sine = omega arith
+polyblep_name-within B.Sawtooth = omega arith
+polyblep_name-within B.Square = omega arith
+polyblep_name-within B.Triangle = omega arith
 
 polyblep-within : (l : List ℕ) (e : OpenBox) (c : Clock) → length (T.polyblep_text l e c) ≤ 256
 unfolding T.polyblep_text
 polyblep-within l e c =
-    let name : length (T.polyblep_name (byte_at l 7)) ≤ 8 = search (words-within, leb-true) in
-    simp length-append (omega (arith, time-within c, name, sounding-within l e))
+    simp length-append (omega (arith, time-within c, polyblep_name-within (poly_blep_waveform (byte_at l 7)), sounding-within l e))
 
 stop-within : (c : Clock) → length (T.stop_text c) ≤ 256
 unfolding T.stop_text
@@ -106,12 +120,11 @@ unfolding T.ask_text
 ask-within question answer c h =
     words-within 256 (eqb (byte_at answer 0) 0) _ _ refl (simp length-append (omega (arith, h, time-within c, end-within (byte_at answer 0))))
 
-pub line-within : (l answer : List ℕ) (e : OpenBox) (c : Clock) → length (T.line_text l answer e c) ≤ 256
-unfolding T.line_text
-line-within l answer e c =
+pub call-within : (l answer : List ℕ) (e : OpenBox) (c : Clock) → length (T.call_text l answer e c) ≤ 256
+unfolding T.call_text
+call-within l answer e c =
     let code = byte_at l 0 in
-    either-within 256 (eqb code 0x10) _ _ (count-within (words "open ") (byte_at l 1) (words " voice") (long_at l 2) answer c (omega arith) (omega arith))
-    (either-within 256 (eqb code 0x11) _ _ (count-within (words "set a bank of ") (wide_at l 5) (words " sound") (long_at l 1) answer c (omega arith) (omega arith))
+    either-within 256 (eqb code 0x11) _ _ (count-within (words "set a bank of ") (wide_at l 5) (words " sound") (long_at l 1) answer c (omega arith) (omega arith))
     (either-within 256 (eqb code 0x13) _ _ (play-within l answer e c)
     (either-within 256 (eqb code 0x14) _ _ (fade-within T.fade_words l answer e c (omega arith))
     (either-within 256 (eqb code 0x15) _ _ (tone-within l e c)
@@ -120,9 +133,20 @@ line-within l answer e c =
     (either-within 256 (eqb code 0x1A) _ _ (ask-within (T.search_question l) answer c (simp length-append (omega (arith, decimal-within (wide_at l 1)))))
     (either-within 256 (eqb code 0x1B) _ _ (ask-within T.payload_question answer c (omega arith))
     (either-within 256 (eqb code 0x1C) _ _ (ask-within (T.voice_question l) answer c (simp length-append (omega (arith, decimal-within (byte_at l 1)))))
-    (either-within 256 (eqb code 0x70) _ _ (count-within (words "open a box of the present rules, ") (byte_at l 1) (words " voice") (long_at l 2) answer c (omega arith) (omega arith))
     (either-within 256 (eqb code 0x73) _ _ (fade-within T.fade_on_words l answer e c (omega arith))
-    (omega arith))))))))))))
+    (omega arith))))))))))
+
+held-within : (l answer : List ℕ) (held : Option OpenBox) (c : Clock) → length (T.held_text l answer held c) ≤ 256
+held-within l answer None c = omega arith
+held-within l answer (Some e) c = call-within l answer e c
+
+pub line-within : (l answer : List ℕ) (held : Option OpenBox) (c : Clock) → length (T.line_text l answer held c) ≤ 256
+unfolding T.line_text
+line-within l answer held c =
+    let code = byte_at l 0 in
+    either-within 256 (eqb code 0x10) _ _ (count-within (words "open ") (byte_at l 1) (words " voice") (long_at l 2) answer c (omega arith) (omega arith))
+    (either-within 256 (eqb code 0x70) _ _ (count-within (words "open a box of the present rules, ") (byte_at l 1) (words " voice") (long_at l 2) answer c (omega arith) (omega arith))
+    (held-within l answer held c))
 
 pub total-within : (c : Clock) → length (T.total_text c) ≤ 256
 unfolding T.total_text
@@ -157,3 +181,6 @@ unfolding W.wait_text
 wait-within l answer c =
     let code = byte_at l 0 in
     either-within 256 (eqb code 0x74) _ _ (leave-within l answer c) (either-within 256 (eqb code 0x75) _ _ (withdraw-within l answer c) (omega arith))
+
+-- a line of the account has room, so the text says all of it
+pub ruleset whole_lines = (whole, call-within, line-within, total-within, moved-within, wait-within)

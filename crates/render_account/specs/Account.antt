@@ -7,9 +7,14 @@ use Rattle.render_texts.specs.declared.Clock.{Clock}
 use Rattle.hex_digits.specs.Hex.{byte_at, wide_at, long_at}
 use Rattle.voice.specs.Voices.{audible}
 use Rattle.mixer.specs.Mixers.{voice_read}
-use Rattle.replay_box.specs.Boxes.{mixer_of}
+use Rattle.replay_box.specs.Boxes.{is_present, mixer_of}
 use Rattle.replay_box.specs.declared.OpenBox.{OpenBox}
+use Rattle.replay_fields.specs.Read.{tone_waveform, poly_blep_waveform}
 use Rattle.voice.specs.declared.Voice.{Voice}
+use Rattle.tone.specs.declared.Waveform.{Waveform}
+use Rattle.tone.specs.declared.Waveform.TheVariants as W
+use Rattle.polyblep.specs.declared.PolyBlepWaveform.{PolyBlepWaveform}
+use Rattle.polyblep.specs.declared.PolyBlepWaveform.TheVariants as B
 
 -- "Numbers that requests add" (document 02), in words
 unfoldable pub added_text : ℕ → List ℕ
@@ -78,7 +83,7 @@ taken_text present (Some v) = cond (audible v) (from_text present v.priority) []
 
 -- the voice that a request got
 unfoldable pub voice_text : OpenBox → ℕ → List ℕ
-voice_text e voice = words ": voice " ++ decimal voice ++ taken_text e.present (voice_read (mixer_of e) voice)
+voice_text e voice = words ": voice " ++ decimal voice ++ taken_text (is_present e) (voice_read (mixer_of e) voice)
 
 -- what came of a request
 abbrev pub outcome_text : List ℕ → OpenBox → List ℕ
@@ -117,17 +122,22 @@ voices_text n = cond (eqb n 0) (words ": there are no voices\n") (words "\n")
 unfoldable pub sounding_text : List ℕ → OpenBox → List ℕ
 sounding_text l e = decimal (long_at l 1) ++ words " Hz" ++ lasting_text (wide_at l 5) ++ voices_text (mixer_of e).n
 
-abbrev pub tone_name : ℕ → List ℕ
-tone_name n = cond (eqb n 0) (words "square") (cond (eqb n 1) (words "sine") (words "triangle"))
+abbrev pub tone_name : Waveform → List ℕ
+tone_name W.Square = words "square"
+tone_name W.Sine = words "sine"
+tone_name W.Triangle = words "triangle"
 
 unfoldable pub tone_text : List ℕ → OpenBox → Clock → List ℕ
-tone_text l e c = time_text c ++ tone_name (byte_at l 7) ++ words " tone of " ++ sounding_text l e
+tone_text l e c = time_text c ++ tone_name (tone_waveform (byte_at l 7)) ++ words " tone of " ++ sounding_text l e
 
-abbrev pub polyblep_name : ℕ → List ℕ
-polyblep_name n = cond (eqb n 0) (words "sine") (cond (eqb n 1) (words "sawtooth") (cond (eqb n 2) (words "square") (words "triangle")))
+abbrev pub polyblep_name : PolyBlepWaveform → List ℕ
+polyblep_name B.Sine = words "sine"
+polyblep_name B.Sawtooth = words "sawtooth"
+polyblep_name B.Square = words "square"
+polyblep_name B.Triangle = words "triangle"
 
 unfoldable pub polyblep_text : List ℕ → OpenBox → Clock → List ℕ
-polyblep_text l e c = time_text c ++ words "PolyBLEP " ++ polyblep_name (byte_at l 7) ++ words " of " ++ sounding_text l e
+polyblep_text l e c = time_text c ++ words "PolyBLEP " ++ polyblep_name (poly_blep_waveform (byte_at l 7)) ++ words " of " ++ sounding_text l e
 
 unfoldable pub stop_text : Clock → List ℕ
 stop_text c = time_text c ++ words "stop\n"
@@ -145,12 +155,11 @@ payload_question = words "look a payload up"
 abbrev pub voice_question : List ℕ → List ℕ
 voice_question l = words "find a voice at priority " ++ decimal (byte_at l 1)
 
--- a line of the script, its answer, the box before it and the time; frames, pans and gains have no line
-unfoldable pub line_text : List ℕ → List ℕ → OpenBox → Clock → List ℕ
-line_text l answer e c =
+-- a record of the box that is open, as it was before it; frames, pans and gains have no line
+unfoldable pub call_text : List ℕ → List ℕ → OpenBox → Clock → List ℕ
+call_text l answer e c =
     let code = byte_at l 0 in
-    cond (eqb code 0x10) (open_text l answer c)
-    (cond (eqb code 0x11) (bank_text l answer c)
+    cond (eqb code 0x11) (bank_text l answer c)
     (cond (eqb code 0x13) (play_text l answer e c)
     (cond (eqb code 0x14) (fade_text fade_words l answer e c)
     (cond (eqb code 0x15) (tone_text l e c)
@@ -159,9 +168,18 @@ line_text l answer e c =
     (cond (eqb code 0x1A) (ask_text (search_question l) answer c)
     (cond (eqb code 0x1B) (ask_text payload_question answer c)
     (cond (eqb code 0x1C) (ask_text (voice_question l) answer c)
-    (cond (eqb code 0x70) (present_text l answer c)
     (cond (eqb code 0x73) (fade_text fade_on_words l answer e c)
-    [])))))))))))
+    [])))))))))
+
+abbrev pub held_text : List ℕ → List ℕ → Option OpenBox → Clock → List ℕ
+held_text l answer None c = []
+held_text l answer (Some e) c = call_text l answer e c
+
+-- a line of the script, its answer, the box before it and the time
+unfoldable pub line_text : List ℕ → List ℕ → Option OpenBox → Clock → List ℕ
+line_text l answer held c =
+    let code = byte_at l 0 in
+    cond (eqb code 0x10) (open_text l answer c) (cond (eqb code 0x70) (present_text l answer c) (held_text l answer held c))
 
 -- the account's last line; a frame has 4 bytes
 unfoldable pub total_text : Clock → List ℕ

@@ -1,10 +1,10 @@
 -- The account of requests that wait (document 02, T-08): each that is left or withdrawn, and how many left the line in the frames of a record. Assumes nothing.
-use Rattle.std.specs.Prelude.{ℕ, ◌+◌, ◌-◌, ◌*◌, cond, List, [], ◌++◌, eqb, leb, None, Option, Some}
+use Rattle.std.specs.Prelude.{ℕ, ◌+◌, ◌-◌, ◌*◌, cond, List, [], ◌++◌, eqb, leb, length, None, Option, Some}
 use Rattle.error.specs.Numbers.{number_of}
 use Rattle.hex_digits.specs.Hex.{byte_at, wide_at}
 use Rattle.render_texts.specs.Texts.{words, decimal, things, time_text}
 use Rattle.render_texts.specs.declared.Clock.{Clock}
-use Rattle.replay_box.specs.Boxes.{kept_in}
+use Rattle.replay_box.specs.Boxes.{waiting_in, kept_in}
 use Rattle.replay_box.specs.declared.OpenBox.{OpenBox}
 use Rattle.render_account.specs.Account.{why_text, end_text, number_in}
 use Rattle.error.specs.declared.AudioError.{AudioError}
@@ -37,7 +37,7 @@ dropped_text before after =
     (words ", the last dropped: label " ++ decimal (kept_label after) ++ words ", " ++ decimal (kept_number after) ++ words ": " ++ why_text (kept_number after) ++ words "\n")
 
 abbrev pub waiting_count : OpenBox → ℕ
-waiting_count b = b.sounder.state.line.count
+waiting_count b = length (waiting_in b)
 
 -- how many left the line in the frames of a record: the box before it and after it
 unfoldable pub moved_text : OpenBox → OpenBox → Clock → List ℕ

@@ -1,17 +1,19 @@
 // What a person is told of a line of a script that was answered. The answer's text has the number first, then the voice.
 #![tactic(auto)]
 
-ghost use Rattle.std.specs.Prelude.{◌++◌};
+ghost use Rattle.std.specs.Prelude.{◌++◌, option_copied};
 ghost use Rattle.render_texts.specs.Texts.{Says, Tells, Adds, decimal};
-ghost use Rattle.replay_box.specs.Boxes.{ValidBox};
 ghost use Rattle.render_account.specs.Account as T;
 
 pub mod waits;
 mod words;
 
 use hex_digits::{byte_at, long_at, wide_at};
+use polyblep::PolyBlepWaveform;
 use render_texts::{Clock, Text, at_time, count, empty, say, so_long, things};
 use replay_box::OpenBox;
+use replay_fields::{polyblep_waveform, tone_waveform};
+use tone::Waveform;
 use words::{ended, over, sounding, voiced};
 
 fn counted(head: &[u8], n: u64, name: &[u8], hz: u32, answer: &[u8], c: Clock) -> Text
@@ -50,9 +52,8 @@ fn banked(l: &[u8], answer: &[u8], c: Clock) -> Text
     counted(b"set a bank of ", n, b" sound", long_at(l, 1), answer, c)
 }
 
-fn played(l: &[u8], answer: &[u8], e: OpenBox, c: Clock) -> Text
-    requires { ValidBox e }
-    ensures { Says (T.play_text l.now answer.now e c) result }
+fn played(l: &[u8], answer: &[u8], e: &OpenBox, c: Clock) -> Text
+    ensures { Says (T.play_text l.now answer.now e.now c) result }
 {
     let id = count(say(at_time(c), b"play "), wide_at(l, 1) as u64);
     let asked = count(say(id, b" at priority "), byte_at(l, 10) as u64);
@@ -64,8 +65,8 @@ fn played(l: &[u8], answer: &[u8], e: OpenBox, c: Clock) -> Text
 }
 
 // A fade, by the call that is asked for.
-fn fading(call: &[u8], l: &[u8], answer: &[u8], e: OpenBox, c: Clock) -> Text
-    ensures { Says (T.fade_text call.now l.now answer.now e c) result }
+fn fading(call: &[u8], l: &[u8], answer: &[u8], e: &OpenBox, c: Clock) -> Text
+    ensures { Says (T.fade_text call.now l.now answer.now e.now c) result }
 {
     let id = count(say(at_time(c), call), wide_at(l, 1) as u64);
     let ms = wide_at(l, 3);
@@ -78,53 +79,56 @@ fn fading(call: &[u8], l: &[u8], answer: &[u8], e: OpenBox, c: Clock) -> Text
     ended(asked, number)
 }
 
-fn faded(l: &[u8], answer: &[u8], e: OpenBox, c: Clock) -> Text
-    ensures { Says (T.fade_text T.fade_words l.now answer.now e c) result }
+fn faded(l: &[u8], answer: &[u8], e: &OpenBox, c: Clock) -> Text
+    ensures { Says (T.fade_text T.fade_words l.now answer.now e.now c) result }
 {
     fading(b"fade to ", l, answer, e, c)
 }
 
-fn faded_on(l: &[u8], answer: &[u8], e: OpenBox, c: Clock) -> Text
-    ensures { Says (T.fade_text T.fade_on_words l.now answer.now e c) result }
+fn faded_on(l: &[u8], answer: &[u8], e: &OpenBox, c: Clock) -> Text
+    ensures { Says (T.fade_text T.fade_on_words l.now answer.now e.now c) result }
 {
     fading(b"fade that sounds on to ", l, answer, e, c)
 }
 
-fn tone_name(t: Text, waveform: u8) -> Text
+fn tone_name(t: Text, waveform: Waveform) -> Text
     ensures { Adds t (T.tone_name waveform) result }
 {
     match waveform {
-        0 => say(t, b"square"),
-        1 => say(t, b"sine"),
-        _ => say(t, b"triangle"),
+        Waveform::Square => say(t, b"square"),
+        Waveform::Sine => say(t, b"sine"),
+        Waveform::Triangle => say(t, b"triangle"),
     }
 }
 
-fn toned(l: &[u8], e: OpenBox, c: Clock) -> Text
-    ensures { Says (T.tone_text l.now e c) result }
+#[tactic(auto, using(render_texts::proofs::Laws::then), unfolding(crate::specs::Account::tone_text))]
+fn toned(l: &[u8], e: &OpenBox, c: Clock) -> Text
+    ensures { Says (T.tone_text l.now e.now c) result }
 {
-    let name = tone_name(at_time(c), byte_at(l, 7));
+    let name = tone_name(at_time(c), tone_waveform(byte_at(l, 7)));
     sounding(say(name, b" tone of "), l, e)
 }
 
-fn polyblep_name(t: Text, waveform: u8) -> Text
+fn polyblep_name(t: Text, waveform: PolyBlepWaveform) -> Text
     ensures { Adds t (T.polyblep_name waveform) result }
 {
     match waveform {
-        0 => say(t, b"sine"),
-        1 => say(t, b"sawtooth"),
-        2 => say(t, b"square"),
-        _ => say(t, b"triangle"),
+        PolyBlepWaveform::Sine => say(t, b"sine"),
+        PolyBlepWaveform::Sawtooth => say(t, b"sawtooth"),
+        PolyBlepWaveform::Square => say(t, b"square"),
+        PolyBlepWaveform::Triangle => say(t, b"triangle"),
     }
 }
 
-fn polybleped(l: &[u8], e: OpenBox, c: Clock) -> Text
-    ensures { Says (T.polyblep_text l.now e c) result }
+fn polybleped(l: &[u8], e: &OpenBox, c: Clock) -> Text
+    ensures { Says (T.polyblep_text l.now e.now c) result }
 {
-    let name = polyblep_name(say(at_time(c), b"PolyBLEP "), byte_at(l, 7));
+    let waveform = polyblep_waveform(byte_at(l, 7));
+    let name = polyblep_name(say(at_time(c), b"PolyBLEP "), waveform);
     sounding(say(name, b" of "), l, e)
 }
 
+#[tactic(auto, using(render_texts::proofs::Laws::then), unfolding(crate::specs::Account::stop_text))]
 fn stopped(c: Clock) -> Text
     ensures { Says (T.stop_text c) result }
 {
@@ -148,6 +152,7 @@ fn searched(l: &[u8], answer: &[u8], c: Clock) -> Text
     asked(b"search for ", wide_at(l, 1) as u64, answer, c)
 }
 
+#[tactic(auto, using(render_texts::proofs::Laws::then), unfolding(crate::specs::Account::ask_text))]
 fn looked_up(answer: &[u8], c: Clock) -> Text
     ensures { Says (T.ask_text T.payload_question answer.now c) result }
 {
@@ -169,13 +174,12 @@ fn allocated(l: &[u8], answer: &[u8], c: Clock) -> Text
     )
 }
 
-// Frames, and calls that only ask and are answered, have no line in the account.
-pub fn tell(l: &[u8], answer: &[u8], e: OpenBox, c: Clock) -> Text
-    requires { ValidBox e }
-    ensures { Tells (T.line_text l.now answer.now e c) result }
+// A record of the box that is open, as it was before it. Frames, and calls that only ask and are answered, have no line in the account.
+#[tactic(auto, using(std::proofs::lemmas::Bool::Decides::nat_tests, crate::proofs::Laws::whole_lines), unfolding(crate::specs::Account::call_text))]
+fn tell_call(l: &[u8], answer: &[u8], e: &OpenBox, c: Clock) -> Text
+    ensures { Tells (T.call_text l.now answer.now e.now c) result }
 {
     match byte_at(l, 0) {
-        0x10 => opened(l, answer, c),
         0x11 => banked(l, answer, c),
         0x13 => played(l, answer, e, c),
         0x14 => faded(l, answer, e, c),
@@ -185,9 +189,23 @@ pub fn tell(l: &[u8], answer: &[u8], e: OpenBox, c: Clock) -> Text
         0x1a => searched(l, answer, c),
         0x1b => looked_up(answer, c),
         0x1c => allocated(l, answer, c),
-        0x70 => opened_present(l, answer, c),
         0x73 => faded_on(l, answer, e, c),
         _ => empty(),
+    }
+}
+
+// A line, and the box that was open before it.
+#[tactic(auto, using(std::proofs::lemmas::Bool::Decides::nat_tests, crate::proofs::Laws::whole_lines), unfolding(crate::specs::Account::line_text))]
+pub fn tell(l: &[u8], answer: &[u8], held: Option<&OpenBox>, c: Clock) -> Text
+    ensures { Tells (T.line_text l.now answer.now (option_copied held.entry) c) result }
+{
+    match byte_at(l, 0) {
+        0x10 => opened(l, answer, c),
+        0x70 => opened_present(l, answer, c),
+        _ => match held {
+            Some(e) => tell_call(l, answer, e, c),
+            None => empty(),
+        },
     }
 }
 

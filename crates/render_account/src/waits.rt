@@ -18,6 +18,7 @@ fn left(l: &[u8], answer: &[u8], c: Clock) -> Text
     ended(labelled, byte_at(answer, 0))
 }
 
+#[tactic(auto, using(render_texts::proofs::Laws::then), unfolding(crate::specs::Waits::withdraw_text))]
 fn withdrawn(l: &[u8], answer: &[u8], c: Clock) -> Text
     ensures { Says (T.withdraw_text l.now answer.now c) result }
 {
@@ -28,19 +29,13 @@ fn withdrawn(l: &[u8], answer: &[u8], c: Clock) -> Text
 fn kept_number(k: Option<(AudioError, u16)>) -> u8
     ensures { result ≡ T.kept_number k }
 {
-    match k {
-        None => 0,
-        Some((error, _)) => u8::from(error),
-    }
+    k.map_or(0, |(error, _)| u8::from(error))
 }
 
 fn kept_label(k: Option<(AudioError, u16)>) -> u16
     ensures { result ≡ T.kept_label k }
 {
-    match k {
-        None => 0,
-        Some((_, label)) => label,
-    }
+    k.map_or(0, |(_, label)| label)
 }
 
 fn kept_key(k: Option<(AudioError, u16)>) -> u32
@@ -66,8 +61,8 @@ fn dropped(t: Text, before: Option<(AudioError, u16)>, after: Option<(AudioError
 }
 
 // How many left the line in the frames of a record: the box before it and after it.
-pub fn tell_moved(before: OpenBox, after: OpenBox, c: Clock) -> Text
-    ensures { Tells (T.moved_text before after c) result }
+pub fn tell_moved(before: &OpenBox, after: &OpenBox, c: Clock) -> Text
+    ensures { Tells (T.moved_text before.now after.now c) result }
 {
     let n = before.waiting_count();
     let m = after.waiting_count();
@@ -82,15 +77,13 @@ pub fn tell_moved(before: OpenBox, after: OpenBox, c: Clock) -> Text
 }
 
 // A request left or withdrawn.
+#[tactic(auto, using(std::proofs::lemmas::Bool::Decides::nat_tests, crate::proofs::Laws::whole_lines), unfolding(crate::specs::Waits::wait_text))]
 pub fn tell_waiting(l: &[u8], answer: &[u8], c: Clock) -> Text
     ensures { Tells (T.wait_text l.now answer.now c) result }
 {
-    let code = byte_at(l, 0);
-    if code == 0x74 {
-        return left(l, answer, c);
+    match byte_at(l, 0) {
+        0x74 => left(l, answer, c),
+        0x75 => withdrawn(l, answer, c),
+        _ => empty(),
     }
-    if code == 0x75 {
-        return withdrawn(l, answer, c);
-    }
-    empty()
 }

@@ -1,13 +1,14 @@
 // Pieces of the account's lines.
 ghost use Rattle.render_texts.specs.Texts.{Adds};
-ghost use Rattle.replay_box.specs.Boxes.{ValidBox};
+ghost use Rattle.replay_box.specs.Boxes.{is_present};
 ghost use Rattle.render_account.specs.Account as T;
 
 use hex_digits::{long_at, wide_at};
 use render_texts::{Text, count, say, tenths};
 use replay_box::OpenBox;
 
-// Numbers that document 02's requests add, in words.
+// Numbers that document 02's requests add, in words. They stay numbers, as an answer has them: one without words is told too, and a TryFrom
+// to AudioError would be this table once more.
 fn why_added(t: Text, number: u8) -> Text
     ensures { Adds t (T.added_text number) result }
 {
@@ -25,7 +26,7 @@ fn why_added(t: Text, number: u8) -> Text
     }
 }
 
-// Why a call is turned down: document 01's numbers in words.
+// Why a call is turned down: document 01's numbers in words, and the others as above.
 pub(crate) fn why(t: Text, number: u8) -> Text
     ensures { Adds t (T.why_text number) result }
 {
@@ -48,7 +49,7 @@ pub(crate) fn why(t: Text, number: u8) -> Text
     }
 }
 
-// The end of a line: nothing more where a call was accepted.
+// The end of a line, by the number that the answer begins with: nothing more where a call was accepted.
 pub(crate) fn ended(t: Text, number: u8) -> Text
     ensures { Adds t (T.end_text number) result }
 {
@@ -60,10 +61,10 @@ pub(crate) fn ended(t: Text, number: u8) -> Text
 }
 
 // From whom a voice was taken: by the present rules the oldest of its priority.
-fn taken(t: Text, present: bool, priority: u8) -> Text
-    ensures { Adds t (T.from_text present priority) result }
+fn taken(t: Text, e: &OpenBox, priority: u8) -> Text
+    ensures { Adds t (T.from_text (is_present e.now) priority) result }
 {
-    if present {
+    if e.is_present() {
         return count(
             say(t, b", taken from the oldest at priority "),
             priority as u64,
@@ -73,16 +74,15 @@ fn taken(t: Text, present: bool, priority: u8) -> Text
 }
 
 // The voice that a request got; where it was audible, whose it was.
-pub(crate) fn voiced(t: Text, e: OpenBox, voice: u8) -> Text
-    requires { ValidBox e }
-    ensures { Adds t (T.voice_text e voice) result }
+pub(crate) fn voiced(t: Text, e: &OpenBox, voice: u8) -> Text
+    ensures { Adds t (T.voice_text e.now voice) result }
 {
     let got = count(say(t, b": voice "), voice as u64);
     match e.voice(voice as usize) {
         None => got,
         Some(v) => {
             if v.is_audible() {
-                return taken(got, e.is_present(), v.priority);
+                return taken(got, e, v.priority);
             }
             got
         }
@@ -113,8 +113,8 @@ fn lasting(t: Text, ms: u16) -> Text
 }
 
 // A frequency and how long; a box of no voices has none to sound it.
-pub(crate) fn sounding(t: Text, l: &[u8], e: OpenBox) -> Text
-    ensures { Adds t (T.sounding_text l.now e) result }
+pub(crate) fn sounding(t: Text, l: &[u8], e: &OpenBox) -> Text
+    ensures { Adds t (T.sounding_text l.now e.now) result }
 {
     let hz = say(count(t, long_at(l, 1) as u64), b" Hz");
     let ms = lasting(hz, wide_at(l, 5));

@@ -4,7 +4,7 @@
 ghost use Rattle.std.specs.Prelude.{◌≡◌, ◌≤◌, [], drop};
 ghost use Rattle.render_texts.specs.Texts as T;
 
-// The first len of these bytes, a String with no heap. No invariant on len: every text may be said more, one that is too long too, and a
+// The first len of these bytes: a String, were there a heap. No invariant on len: every text may be said more, one that is too long too, and a
 // narrower type would ask more of callers. Derived equality would tell apart texts that say the same.
 #[derive(Clone, Copy, Debug)]
 pub struct Text {

@@ -2,180 +2,109 @@
 // library's.
 #![tactic(auto)]
 
-ghost use Rattle.std.specs.Prelude.{◌+◌, ◌≤◌, length};
-ghost use Rattle.replay_session.specs.Sessions.{ValidSession};
-
 use replay_session::Session;
 use std::io::Read;
 
-// How much of a line is kept, how many bytes of answers are held back, and whether the run goes on.
-#[derive(Clone, Copy)]
-struct State {
+// How much of a line is kept, how many bytes of answers are held back, and the session.
+#[derive(Drop)]
+struct Run {
     line: usize,
     held: usize,
-    more: bool,
-}
-
-// The run so far, line by line.
-#[derive(Clone, Copy)]
-struct Run {
-    state: State,
     session: Session,
 }
 
-// Writes the first n bytes and says whether that went well.
-fn write_front(rt: &impl Print, s: &[u8], n: usize) -> bool {
-    if n <= s.len() {
-        rt.write_all(&s[..n]).is_ok()
-    } else {
-        false
-    }
+// An answer, and the answers that are held back.
+#[derive(Drop)]
+struct Buffers {
+    out: [u8; 262144],
+    kept: [u8; 65536],
 }
 
-fn copy(kept: &mut [u8; 65536], at: usize, s: &[u8])
-    requires { at + length s.now ≤ 65536 }
-{
-    let mut i = 0;
-    while i < s.len() {
-        kept[at + i] = s[i];
-        i += 1;
-    }
+// Writes the first n bytes; None where that goes wrong.
+fn write_front(rt: &impl Print, s: &[u8], n: usize) -> Option<()> {
+    rt.write_all(s.get(..n)?).ok()
 }
 
-// Holds an answer of n bytes back. Where it does not fit, what is held is written first, and then the answer.
-fn keep(rt: &impl Print, s: State, out: &[u8], n: usize, kept: &mut [u8; 65536]) -> State {
-    let at = s.held;
-    if n <= out.len() && n <= 65536 && at <= 65536 - n {
-        copy(kept, at, &out[..n]);
-        return State { held: at + n, ..s };
+// Holds an answer of n bytes back. Where it does not fit, what is held is written first, and then the answer; None where that goes wrong.
+fn keep(rt: &impl Print, r: &mut Run, n: usize, b: &mut Buffers) -> Option<()> {
+    let at = r.held;
+    let answer = b.out.get(..n)?;
+    if n <= 65536 && at <= 65536 - n {
+        b.kept[at..at + n].copy_from_slice(answer);
+        r.held = at + n;
+        return Some(());
     }
-    let is_written = write_front(rt, &*kept, at) && write_front(rt, out, n);
-    State {
-        held: 0,
-        more: s.more && is_written,
-        ..s
-    }
+    r.held = 0;
+    write_front(rt, &b.kept, at)?;
+    rt.write_all(answer).ok()
 }
 
-fn answered(
-    rt: &impl Print,
-    r: Run,
-    line: &[u8],
-    n: usize,
-    lent: &mut [u8; 4096],
-    out: &mut [u8; 262144],
-    kept: &mut [u8; 65536],
-) -> Run
-    requires { ValidSession r.session }
-    ensures { ValidSession result.session }
-{
-    let s = r.state;
-    let before = r.session;
-    if n > line.len() {
-        let state = State { more: false, ..s };
-        return Run { state, ..r };
-    }
-    let a = replay_session::answer(&line[..n], before, lent, out);
-    let t = State {
-        line: 0,
-        held: s.held,
-        more: a.more,
-    };
-    let after = a.session;
-    let state = keep(rt, t, &*out, a.len, kept);
-    Run {
-        state,
-        session: after,
-    }
+// None where the run ends with the line.
+fn answered(rt: &impl Print, r: &mut Run, line: &[u8], b: &mut Buffers) -> Option<()> {
+    let a = r.session.answer(line, &mut b.out);
+    r.line = 0;
+    keep(rt, r, a.len, b)?;
+    if a.more { Some(()) } else { None }
 }
 
-// The lines that end in the chunk, and what it begins of the next. A line that fills its 8,195 bytes is bad wherever it ends.
+// The lines that end in the chunk, and what it begins of the next. A line that fills its 8,195 bytes is bad wherever it ends. By the place
+// in the chunk, which is where a line stopped.
 fn feed(
     rt: &impl Print,
-    r: Run,
+    r: &mut Run,
     chunk: &[u8],
     line: &mut [u8; 8195],
-    lent: &mut [u8; 4096],
-    out: &mut [u8; 262144],
-    kept: &mut [u8; 65536],
-) -> Run
-    requires { ValidSession r.session }
-    ensures { ValidSession result.session }
-{
-    let mut t = r;
+    b: &mut Buffers,
+) -> Option<()> {
     let mut i = 0;
-    while i < chunk.len() && t.state.more {
-        let s = t.state;
-        let f = input_lines::fill(line, s.line, chunk, i);
+    while i < chunk.len() {
+        let f = input_lines::fill(line, r.line, chunk, i);
         i = f.next;
+        r.line = f.line;
         if f.ended {
-            t = answered(rt, t, &*line, f.line, lent, out, kept);
-        } else {
-            let state = State { line: f.line, ..s };
-            t = Run { state, ..t };
+            answered(rt, r, line.get(..f.line)?, b)?;
         }
     }
-    t
+    Some(())
 }
 
-// Reads once and answers the lines that ended. At the end of the input a last line may lack its newline. A read that fails ends the
-// input.
+// Reads once and answers the lines that ended; None at the end of the run. At the end of the input a last line may lack its newline. A
+// read that fails ends the input.
 fn read_some(
     rt: &impl Print,
     input: &mut impl Read,
-    r: Run,
+    r: &mut Run,
     line: &mut [u8; 8195],
-    lent: &mut [u8; 4096],
-    out: &mut [u8; 262144],
-    kept: &mut [u8; 65536],
-) -> Run
-    requires { ValidSession r.session }
-    ensures { ValidSession result.session }
-{
+    b: &mut Buffers,
+) -> Option<()> {
     let mut chunk = [0u8; 65536];
     let got = input.read(&mut chunk).unwrap_or(0);
     if got > 0 {
-        return feed(rt, r, &chunk[..got], line, lent, out, kept);
+        return feed(rt, r, &chunk[..got], line, b);
     }
-    let s = r.state;
-    let n = s.line;
-    if n == 0 {
-        let state = State { more: false, ..s };
-        return Run { state, ..r };
+    if r.line > 0 {
+        answered(rt, r, line.get(..r.line)?, b)?;
     }
-    let t = answered(rt, r, &*line, n, lent, out, kept);
-    let u = t.state;
-    let state = State { more: false, ..u };
-    Run { state, ..t }
+    None
 }
 
-fn finish(rt: &impl Print, kept: &[u8; 65536], held: usize) {
-    write_front(rt, kept, held);
-}
-
-// A proved loop has to end, and nothing says that the input does: the turns are counted down from a number that no run uses up.
+// A proved loop has to end, and nothing says that the input does: the turns are counted to a number that no run reaches.
 fn main(rt: HostRuntime) {
     let mut input = rt.stdin();
     let mut line = [0u8; 8195];
-    let mut lent = [0u8; 4096];
-    let mut out = [0u8; 262144];
-    let mut kept = [0u8; 65536];
-    let state = State {
-        line: 0,
-        held: 0,
-        more: true,
+    let mut b = Buffers {
+        out: [0; 262144],
+        kept: [0; 65536],
     };
     let mut r = Run {
-        state,
+        line: 0,
+        held: 0,
         session: Session::new(),
     };
-    let mut turns = u64::MAX;
-    while turns > 0 && r.state.more {
-        r = read_some(
-            &rt, &mut input, r, &mut line, &mut lent, &mut out, &mut kept,
-        );
-        turns -= 1;
+    for _ in 0..u64::MAX {
+        if read_some(&rt, &mut input, &mut r, &mut line, &mut b).is_none() {
+            break;
+        }
     }
-    let s = r.state;
-    finish(&rt, &kept, s.held);
+    let _ = write_front(&rt, &b.kept, r.held);
 }

@@ -1,8 +1,7 @@
 -- Frames on either side of a map that they go along, and the box that is open along each of the two. Assumes nothing.
 use Prim.Native.Nat.{ℕ}
-use mathlib.Core.Path.{◌≡◌, sym, ap, ◌∙◌}
-use mathlib.Core.Bool.{true, false}
-use mathlib.Core.List.{List, [], ◌∷◌, ◌++◌, map}
+use mathlib.Core.Path.{◌≡◌, refl, sym, ap, ◌∙◌}
+use mathlib.Core.List.{List, ◌++◌, map}
 use lib.IntN.{ℤ}
 use lib.ListN.{drop}
 use Rattle.buffers.specs.Buffers.{Done, FillsIn}
@@ -12,20 +11,14 @@ use Rattle.buffers.specs.declared.Level.TheVariants.{Duty, U12, U16}
 use Rattle.buffers.specs.declared.Shape.{Shape}
 use Rattle.buffers.specs.declared.Shape.TheVariants.{Once, Doubled, Sides}
 use Rattle.buffers.proofs.Lifted.{after-along, given-along}
-use Rattle.engine.specs.Engines as E
-use Rattle.engine.specs.Fills as G
-use Rattle.engine.specs.declared.fills.EngineFilled.{EngineFilled}
 use Rattle.entering.specs.Lined as K
 use Rattle.entering.specs.declared.Lined.{Lined}
 use Rattle.mixer.specs.Mixers as M
 use Rattle.mixer.specs.declared.Mixer.{Mixer}
 use Rattle.sounder.specs.Frames as H
-use Rattle.sounder.specs.Sounders as S
-use Rattle.sounder.specs.declared.fills.SounderFilled.{SounderFilled}
-use Rattle.replay_box.specs.Boxes.{ValidBox, with_engine, with_sounder}
-use Rattle.replay_box.specs.Frames.{stepped, of, frames}
-use Rattle.replay_box.specs.declared.OpenBox.{OpenBox}
-use Rattle.replay_box.proofs.Either.{keeps-sounder, keeps-engine}
+use Rattle.replay_box.specs.Boxes.{ValidBox}
+use Rattle.replay_box.specs.Frames.{stepped, of, frames, Fills, Levels}
+use Rattle.replay_box.specs.declared.OpenBox.TheVariants.{Engine, Sounder}
 
 module _ {S T : Type 0} (k : Frames S) (g : Frames T) (f : S → T) where
   pub record Along : Type 0 where
@@ -82,45 +75,26 @@ module _ {S T : Type 0} {k : Frames S} {g : Frames T} {f : S → T} (a : Along k
         fills-along (level_next k l) (level_next g l) (level_cell k l) (level_cell g l) (next-along l) (cell-along l) _ _ s cells filled r h
 
 -- ---- the box that is open
-module _ (bytes : List ℕ) (b : OpenBox) where
-  abbrev in_sounder : Lined → OpenBox
-  in_sounder p = with_sounder b (S.boxed p)
+sounder-along : (bytes : List ℕ) → Along (H.frames bytes) (frames bytes) Sounder
+unfolding stepped of
+sounder-along bytes = record { mono = λ p. refl; duty = λ p. refl; stereo = λ p. refl; pcm = λ p. refl; level = λ p. refl; left = λ p. refl; right = λ p. refl }
 
-  abbrev in_engine : Mixer → OpenBox
-  in_engine m = with_engine b (E.boxed m)
+engine-along : (bytes : List ℕ) → Along mixer_frames (frames bytes) Engine
+unfolding stepped of
+engine-along bytes = record { mono = λ m. refl; duty = λ m. refl; stereo = λ m. refl; pcm = λ m. refl; level = λ m. refl; left = λ m. refl; right = λ m. refl }
 
-  sounder-along : b.present ≡ true → Along (H.frames bytes) (frames bytes) in_sounder
-  unfolding stepped of
-  sounder-along e =
-      record { mono = λ p. rw e; duty = λ p. rw e; stereo = λ p. rw e; pcm = λ p. rw e; level = λ p. rw e; left = λ p. rw e; right = λ p. rw e }
+pub shape-sounder : {A : Type 0} (scale : ℤ → A) (z : Shape) (bytes : List ℕ) (s : Lined) {cells filled : List A} {n : ℕ} {after : Lined}
+    → H.Fills scale z bytes s cells n after filled → Fills scale z bytes (Sounder s) cells n (Sounder after) filled
+shape-sounder scale z bytes s f = shape-along (sounder-along bytes) K.Valid ValidBox (λ p v. v) scale z s f
 
-  engine-along : b.present ≡ false → Along mixer_frames (frames bytes) in_engine
-  unfolding stepped of
-  engine-along e =
-      record { mono = λ m. rw e; duty = λ m. rw e; stereo = λ m. rw e; pcm = λ m. rw e; level = λ m. rw e; left = λ m. rw e; right = λ m. rw e }
+pub shape-engine : {A : Type 0} (scale : ℤ → A) (z : Shape) (bytes : List ℕ) (m : Mixer) {cells filled : List A} {n : ℕ} {after : Mixer}
+    → FillsShape mixer_frames M.Valid scale z m cells (record { state = after; filled = n }) filled → Fills scale z bytes (Engine m) cells n (Engine after) filled
+shape-engine scale z bytes m f = shape-along (engine-along bytes) M.Valid ValidBox (λ m v. v) scale z m f
 
-  module _ (h : ValidBox b) where
-    present-good : (p : Lined) → K.Valid p → ValidBox (in_sounder p)
-    present-good p v = keeps-sounder h (record { inside = v })
+pub level-sounder : (l : Level) (bytes : List ℕ) (s : Lined) {cells filled : List ℕ} {n : ℕ} {after : Lined}
+    → H.Levels l bytes s cells n after filled → Levels l bytes (Sounder s) cells n (Sounder after) filled
+level-sounder l bytes s f = level-along (sounder-along bytes) K.Valid ValidBox (λ p v. v) l s f
 
-    mixer-good : (m : Mixer) → M.Valid m → ValidBox (in_engine m)
-    mixer-good m v = keeps-engine h (record { inside = v })
-
-    pub shape-sounder : {A : Type 0} (scale : ℤ → A) (z : Shape) {cells filled : List A} {r : SounderFilled} → b.present ≡ true
-        → H.Fills scale z bytes b.sounder cells r filled
-        → FillsShape (frames bytes) ValidBox scale z b cells (record { state = with_sounder b r.sounder; filled = r.filled }) filled
-    shape-sounder scale z e f = shape-along (sounder-along e) K.Valid ValidBox present-good scale z b.sounder.state f
-
-    pub shape-engine : {A : Type 0} (scale : ℤ → A) (z : Shape) {cells filled : List A} {r : EngineFilled} → b.present ≡ false
-        → FillsShape mixer_frames M.Valid scale z b.engine.state cells (G.filled_in r) filled
-        → FillsShape (frames bytes) ValidBox scale z b cells (record { state = with_engine b r.engine; filled = r.filled }) filled
-    shape-engine scale z e f = shape-along (engine-along e) M.Valid ValidBox mixer-good scale z b.engine.state f
-
-    pub level-sounder : (l : Level) {cells filled : List ℕ} {r : SounderFilled} → b.present ≡ true → H.Levels l bytes b.sounder cells r filled
-        → FillsLevel (frames bytes) ValidBox l b cells (record { state = with_sounder b r.sounder; filled = r.filled }) filled
-    level-sounder l e f = level-along (sounder-along e) K.Valid ValidBox present-good l b.sounder.state f
-
-    pub level-engine : (l : Level) {cells filled : List ℕ} {r : EngineFilled} → b.present ≡ false
-        → FillsLevel mixer_frames M.Valid l b.engine.state cells (G.filled_in r) filled
-        → FillsLevel (frames bytes) ValidBox l b cells (record { state = with_engine b r.engine; filled = r.filled }) filled
-    level-engine l e f = level-along (engine-along e) M.Valid ValidBox mixer-good l b.engine.state f
+pub level-engine : (l : Level) (bytes : List ℕ) (m : Mixer) {cells filled : List ℕ} {n : ℕ} {after : Mixer}
+    → FillsLevel mixer_frames M.Valid l m cells (record { state = after; filled = n }) filled → Levels l bytes (Engine m) cells n (Engine after) filled
+level-engine l bytes m f = level-along (engine-along bytes) M.Valid ValidBox (λ m v. v) l m f

@@ -1,142 +1,119 @@
 -- The box that a script has open, and each call on it as that box's contract has it. "10 opens document 01's box, 70 .. one of the present
 -- rules, at any time; the one opened last is the one that the records .. go to, each with that box's rules". Assumes nothing.
-use Rattle.std.specs.Prelude.{ℕ, Bool, true, false, cond, List, replicate, Option}
+use Rattle.std.specs.Prelude.{ℕ, Bool, true, false, List, [], replicate, Option, None, Result, Ok, Err}
 use Rattle.allocate.specs.Allocation.{allocated, allocated_oldest}
 use Rattle.config.specs.declared.AudioConfig.{AudioConfig}
-use Rattle.engine.specs.Engines as E
-use Rattle.engine.specs.declared.AudioEngine.{AudioEngine}
-use Rattle.engine.specs.declared.EngineChanged.{EngineChanged}
-use Rattle.engine.specs.declared.EnginePlayed.{EnginePlayed}
+use Rattle.entering.specs.Lined as L
 use Rattle.envelope.specs.declared.AdsrSpec.{AdsrSpec}
 use Rattle.error.specs.Told.{Told}
+use Rattle.error.specs.declared.AudioError.{AudioError}
 use Rattle.mixer.specs.Mixers as M
+use Rattle.mixer.specs.declared.Changed.{Changed}
 use Rattle.mixer.specs.declared.Mixer.{Mixer}
 use Rattle.mixer.specs.declared.VoiceStealingPolicy.{VoiceStealingPolicy}
 use Rattle.play.specs.Fades as F
 use Rattle.play.specs.Plays as P
+use Rattle.play.specs.declared.Played.{Played}
 use Rattle.polyblep.specs.declared.PolyBlepWaveform.{PolyBlepWaveform}
 use Rattle.sounder.specs.Calls as C
 use Rattle.sounder.specs.Calls.{ranks_in}
-use Rattle.sounder.specs.Sounders as S
-use Rattle.sounder.specs.declared.Sounder.{Sounder}
-use Rattle.sounder.specs.declared.SounderChanged.{SounderChanged}
-use Rattle.sounder.specs.declared.SounderPlayed.{SounderPlayed}
+use Rattle.sounder.specs.Sounders.{After}
 use Rattle.start.specs.declared.Request.{Request}
 use Rattle.tone.specs.declared.Waveform.{Waveform}
 use Rattle.waiting.specs.Lines.{in_line}
 use Rattle.waiting.specs.declared.Waiting.{Waiting}
 use Rattle.replay_box.specs.declared.OpenBox.{OpenBox}
-use Rattle.replay_box.specs.declared.BoxChanged.{BoxChanged}
-use Rattle.replay_box.specs.declared.BoxPlayed.{BoxPlayed}
-use Rattle.error.specs.declared.AudioError.{AudioError}
+use Rattle.replay_box.specs.declared.OpenBox.TheVariants.{Engine, Sounder}
+use Rattle.replay_box.specs.declared.Rules.{Rules}
+use Rattle.replay_box.specs.declared.Rules.TheVariants.{First, Present}
 
-pub record ValidBox (b : OpenBox) : Type 0 where
-  pub engine : E.ValidEngine b.engine
-  pub sounder : S.ValidSounder b.sounder
+-- what each state keeps; the boxes' types carry it
+abbrev pub ValidBox : OpenBox → Type 0
+ValidBox (Engine m) = M.Valid m
+ValidBox (Sounder s) = L.Valid s
 
-abbrev pub ValidBoxChanged : BoxChanged → Type 0
-ValidBoxChanged c = ValidBox c.held
+-- whether it is one of the present rules
+abbrev pub is_present : OpenBox → Bool
+is_present (Engine m) = false
+is_present (Sounder s) = true
 
-abbrev pub ValidBoxPlayed : BoxPlayed → Type 0
-ValidBoxPlayed p = ValidBox p.held
-
--- the mixer's state in the box that is open
+-- the mixer's state in it
 unfoldable pub mixer_of : OpenBox → Mixer
-mixer_of b = cond b.present b.sounder.state.present.mixer b.engine.state
+mixer_of (Engine m) = m
+mixer_of (Sounder s) = s.present.mixer
 
 -- the place that a request of this priority would get, by that box's rules
 unfoldable pub place_in : OpenBox → ℕ → Told ℕ
-place_in b priority = cond b.present (allocated_oldest b.sounder.state.present priority) (allocated b.engine.state priority)
+place_in (Engine m) priority = allocated m priority
+place_in (Sounder s) priority = allocated_oldest s.present priority
 
 -- the ranks of its voices; document 01's has none
 unfoldable pub ranks_of : OpenBox → List ℕ
-ranks_of b = cond b.present (ranks_in b.sounder.state) (replicate 16 255)
+ranks_of (Engine m) = replicate 16 255
+ranks_of (Sounder s) = ranks_in s
 
--- the open box after a call on it, alone and with what was told
-abbrev pub with_engine : OpenBox → AudioEngine → OpenBox
-with_engine b e = record { present = b.present; engine = e; sounder = b.sounder }
+-- those that wait, next first, and the kept refusal; document 01's has none
+unfoldable pub waiting_in : OpenBox → List Waiting
+waiting_in (Engine m) = []
+waiting_in (Sounder s) = in_line s.line
 
-abbrev pub with_sounder : OpenBox → Sounder → OpenBox
-with_sounder b s = record { present = b.present; engine = b.engine; sounder = s }
+unfoldable pub kept_in : OpenBox → Option (AudioError × ℕ)
+kept_in (Engine m) = None
+kept_in (Sounder s) = s.kept
 
-abbrev pub engine_changed : OpenBox → EngineChanged → BoxChanged
-engine_changed b c = record { outcome = c.outcome; held = with_engine b c.engine }
+-- ---- opening, of either kind: the box, where it is not refused
+abbrev pub accepted : OpenBox → Result (Unit {0}) AudioError → Result OpenBox AudioError
+accepted b (Ok tt) = Ok b
+accepted b (Err e) = Err e
 
-abbrev pub sounder_changed : OpenBox → SounderChanged → BoxChanged
-sounder_changed b c = record { outcome = c.outcome; held = with_sounder b c.sounder }
-
-abbrev pub engine_played : OpenBox → EnginePlayed → BoxPlayed
-engine_played b p = record { outcome = p.outcome; held = with_engine b p.engine }
-
-abbrev pub sounder_played : OpenBox → SounderPlayed → BoxPlayed
-sounder_played b p = record { outcome = p.outcome; held = with_sounder b p.sounder }
+unfoldable pub opened : Rules → ℕ → AudioConfig → VoiceStealingPolicy → Result OpenBox AudioError
+opened First n config policy = let c = M.opened n config policy in accepted (Engine c.mixer) c.outcome
+opened Present n config policy = let c = C.opened n config policy in accepted (Sounder c.lined) c.gave
 
 -- ---- the calls
+
+-- the box after a call, and what the call gave
+pub record Gave (A : Type 0) : Type 0 where
+  pub held : OpenBox
+  pub gave : A
+
 unfoldable pub panned : OpenBox → ℕ → ℕ → OpenBox
-panned b i pan = cond b.present (with_sounder b (S.boxed (C.panned b.sounder.state i pan))) (with_engine b (E.boxed (M.panned b.engine.state i pan)))
+panned (Engine m) i pan = Engine (M.panned m i pan)
+panned (Sounder s) i pan = Sounder (C.panned s i pan)
 
 unfoldable pub with_master_gain : OpenBox → ℕ → OpenBox
-with_master_gain b gain =
-    cond b.present (with_sounder b (S.boxed (C.with_master_gain b.sounder.state gain))) (with_engine b (E.boxed (M.with_master_gain b.engine.state gain)))
+with_master_gain (Engine m) gain = Engine (M.with_master_gain m gain)
+with_master_gain (Sounder s) gain = Sounder (C.with_master_gain s gain)
 
 unfoldable pub stopped : OpenBox → OpenBox
-stopped b = cond b.present (with_sounder b (S.boxed (C.stopped b.sounder.state))) (with_engine b (E.boxed (M.stopped b.engine.state)))
+stopped (Engine m) = Engine (M.stopped m)
+stopped (Sounder s) = Sounder (C.stopped s)
 
 unfoldable pub toned : OpenBox → ℕ → ℕ → Waveform → OpenBox
-toned b hz ms w = cond b.present (with_sounder b (S.boxed (C.toned b.sounder.state hz ms w))) (with_engine b (E.boxed (P.toned b.engine.state hz ms w)))
+toned (Engine m) hz ms w = Engine (P.toned m hz ms w)
+toned (Sounder s) hz ms w = Sounder (C.toned s hz ms w)
 
 unfoldable pub poly_bleped : OpenBox → ℕ → ℕ → PolyBlepWaveform → OpenBox
-poly_bleped b hz ms w =
-    cond b.present (with_sounder b (S.boxed (C.poly_bleped b.sounder.state hz ms w))) (with_engine b (E.boxed (P.poly_bleped b.engine.state hz ms w)))
+poly_bleped (Engine m) hz ms w = Engine (P.poly_bleped m hz ms w)
+poly_bleped (Sounder s) hz ms w = Sounder (C.poly_bleped s hz ms w)
 
-unfoldable pub banked : OpenBox → ℕ → ℕ → ℕ → BoxChanged
-banked b rate count len =
-    cond b.present (sounder_changed b (C.banked b.sounder.state rate count len)) (engine_changed b (E.changed_box (M.banked b.engine.state rate count len)))
+abbrev pub engine_changed : Changed → Gave (Result (Unit {0}) AudioError)
+engine_changed c = record { held = Engine c.mixer; gave = c.outcome }
 
-unfoldable pub faded : OpenBox → List ℕ → ℕ → ℕ → AdsrSpec → BoxChanged
-faded b bytes id ms adsr =
-    cond b.present
-    (sounder_changed b (C.faded b.sounder.state bytes id ms adsr))
-    (engine_changed b (E.changed_box (F.faded b.engine.state bytes id ms adsr)))
+abbrev pub sounder_gave : {A : Type 0} → After A → Gave A
+sounder_gave x = record { held = Sounder x.lined; gave = x.gave }
 
--- the fade that keeps sounding, which document 01's box has not: of the box of the present rules, whichever is open
-unfoldable pub faded_on : OpenBox → List ℕ → ℕ → ℕ → AdsrSpec → BoxChanged
-faded_on b bytes id ms adsr = sounder_changed b (C.faded_on b.sounder.state bytes id ms adsr)
+unfoldable pub banked : OpenBox → ℕ → ℕ → ℕ → Gave (Result (Unit {0}) AudioError)
+banked (Engine m) rate count len = engine_changed (M.banked m rate count len)
+banked (Sounder s) rate count len = sounder_gave (C.banked s rate count len)
 
--- leaving and withdrawing, of the box of the present rules too
-unfoldable pub left : OpenBox → ℕ → Request → BoxChanged
-left b label r = sounder_changed b (C.left_in b.sounder.state label r)
+unfoldable pub faded : OpenBox → List ℕ → ℕ → ℕ → AdsrSpec → Gave (Result (Unit {0}) AudioError)
+faded (Engine m) bytes id ms adsr = engine_changed (F.faded m bytes id ms adsr)
+faded (Sounder s) bytes id ms adsr = sounder_gave (C.faded s bytes id ms adsr)
 
-unfoldable pub withdrawn : OpenBox → ℕ → BoxChanged
-withdrawn b label = sounder_changed b (C.withdrawn_in b.sounder.state label)
+abbrev pub engine_played : Played → Gave (Result ℕ AudioError)
+engine_played p = record { held = Engine p.mixer; gave = p.outcome }
 
--- those that wait, next first, and the kept refusal
-abbrev pub waiting_in : OpenBox → List Waiting
-waiting_in b = in_line b.sounder.state.line
-
-abbrev pub kept_in : OpenBox → Option (AudioError × ℕ)
-kept_in b = b.sounder.state.kept
-
-unfoldable pub played : OpenBox → List ℕ → Request → BoxPlayed
-played b bytes r =
-    cond b.present (sounder_played b (C.played b.sounder.state bytes r)) (engine_played b (E.played_box (P.played b.engine.state bytes r)))
-
--- ---- opening, of either kind: the outcome, and the box that the opening gives
-abbrev pub opened_engine : OpenBox → EngineChanged → BoxChanged
-opened_engine b c = record { outcome = c.outcome; held = record { present = false; engine = c.engine; sounder = b.sounder } }
-
-abbrev pub opened_sounder : OpenBox → SounderChanged → BoxChanged
-opened_sounder b c = record { outcome = c.outcome; held = record { present = true; engine = b.engine; sounder = c.sounder } }
-
-unfoldable pub opened : OpenBox → Bool → ℕ → AudioConfig → VoiceStealingPolicy → BoxChanged
-opened b present n config policy =
-    cond present (opened_sounder b (C.opened n config policy)) (opened_engine b (E.changed_box (M.opened n config policy)))
-
--- before a box is open one of no voices stands in its place, which no record asks
-unfoldable pub no_box : AudioConfig → OpenBox
-no_box config =
-    record {
-      present = false;
-      engine = (E.changed_box (M.opened 0 config M.default_policy)).engine;
-      sounder = (C.opened 0 config M.default_policy).sounder;
-    }
+unfoldable pub played : OpenBox → List ℕ → Request → Gave (Result ℕ AudioError)
+played (Engine m) bytes r = engine_played (P.played m bytes r)
+played (Sounder s) bytes r = sounder_gave (C.played s bytes r)

@@ -1,9 +1,8 @@
-// The box that a script has open: document 01's, or one of the present rules. Each call goes to the one that is open; the other stays as it is.
+// The box that a script has open: document 01's, or one of the present rules. Each call goes to it.
 #![tactic(auto)]
 
-ghost use Rattle.std.specs.Prelude.{length};
-ghost use Rattle.laws.specs.Made.{Made};
-ghost use Rattle.replay_box.specs.Boxes.{ValidBox, ValidBoxChanged, no_box, opened, panned, with_master_gain, stopped, banked};
+ghost use Rattle.std.specs.Prelude.{◌≡◌, length};
+ghost use Rattle.replay_box.specs.Boxes.{opened, panned, with_master_gain, stopped, banked};
 
 use config::AudioConfig;
 use engine::AudioEngine;
@@ -11,140 +10,100 @@ use error::AudioError;
 use mixer::VoiceStealingPolicy;
 use sounder::Sounder;
 
-pub mod fills;
+mod fills;
 mod reads;
 mod starts;
-pub mod ticks;
-mod waits;
+mod ticks;
 
-// Which of the two is open, and both: one that is not open is as it was when it was left.
-#[derive(Clone, Copy)]
-pub struct OpenBox {
-    present: bool,
-    engine: AudioEngine,
-    sounder: Sounder,
+// Document 01's rules, or the present ones.
+#[derive(Clone, Copy, Debug, PartialEq, Eq)]
+pub enum Rules {
+    First,
+    Present,
 }
 
-#[derive(Clone, Copy)]
-pub struct BoxChanged {
-    pub outcome: Result<(), AudioError>,
-    pub held: OpenBox,
-}
-
-#[derive(Clone, Copy)]
-pub struct BoxPlayed {
-    pub outcome: Result<usize, AudioError>,
-    pub held: OpenBox,
+#[derive(Drop)]
+pub enum OpenBox {
+    Engine(AudioEngine),
+    Sounder(Sounder),
 }
 
 impl OpenBox {
-    // Neither is open: both have no voices.
-    pub fn none(config: AudioConfig) -> OpenBox
-        ensures { Made ValidBox (no_box config) result }
-    {
-        let policy = VoiceStealingPolicy::LowestPriorityOldest;
-        let c = AudioEngine::open(0, config, policy);
-        let d = Sounder::open(0, config, policy);
-        let engine = c.engine;
-        let sounder = d.sounder;
-        OpenBox {
-            present: false,
-            engine,
-            sounder,
-        }
-    }
-
-    pub fn opened(
-        self,
-        present: bool,
+    #[tactic(auto, unfolding(crate::specs::Boxes::opened))]
+    pub fn open(
+        rules: Rules,
         n: usize,
         config: AudioConfig,
         policy: VoiceStealingPolicy,
-    ) -> BoxChanged
-        requires { ValidBox self }
-        ensures { Made ValidBoxChanged (opened self present n config policy) result }
+    ) -> Result<OpenBox, AudioError>
+        ensures { result ≡ opened rules n config policy }
     {
-        if present {
-            let c = Sounder::open(n, config, policy);
-            let outcome = c.outcome;
-            let sounder = c.sounder;
-            let held = OpenBox {
-                present: true,
-                sounder,
-                ..self
-            };
-            return BoxChanged { outcome, held };
+        match rules {
+            Rules::First => {
+                let (engine, outcome) = AudioEngine::open(n, config, policy);
+                outcome?;
+                Ok(OpenBox::Engine(engine))
+            }
+            Rules::Present => {
+                let (sounder, outcome) = Sounder::open(n, config, policy);
+                outcome?;
+                Ok(OpenBox::Sounder(sounder))
+            }
         }
-        let c = AudioEngine::open(n, config, policy);
-        let outcome = c.outcome;
-        let engine = c.engine;
-        let held = OpenBox {
-            present: false,
-            engine,
-            ..self
-        };
-        BoxChanged { outcome, held }
     }
 
-    pub fn set_voice_pan(self, idx: usize, pan_q8: u8) -> OpenBox
-        requires { ValidBox self }
-        ensures { Made ValidBox (panned self idx pan_q8) result }
+    // A box of its own that is the same: no `Copy`, since what holds a model is not copied in a proof.
+    pub fn copied(&self) -> OpenBox
+        ensures { result ≡ self.now }
     {
-        if self.present {
-            let s = self.sounder;
-            let sounder = s.set_voice_pan(idx, pan_q8);
-            return OpenBox { sounder, ..self };
+        match self {
+            OpenBox::Engine(e) => OpenBox::Engine(*e),
+            OpenBox::Sounder(s) => OpenBox::Sounder(*s),
         }
-        let e = self.engine;
-        let engine = e.set_voice_pan(idx, pan_q8);
-        OpenBox { engine, ..self }
     }
 
-    pub fn set_master_gain_q8(self, gain: u8) -> OpenBox
-        requires { ValidBox self }
-        ensures { Made ValidBox (with_master_gain self gain) result }
+    #[tactic(auto, unfolding(crate::specs::Boxes::panned))]
+    pub fn set_voice_pan(&mut self, idx: usize, pan_q8: u8)
+        ensures { self.new ≡ panned self.old idx pan_q8 }
     {
-        if self.present {
-            let s = self.sounder;
-            let sounder = s.set_master_gain_q8(gain);
-            return OpenBox { sounder, ..self };
+        match self {
+            OpenBox::Engine(e) => e.set_voice_pan(idx, pan_q8),
+            OpenBox::Sounder(s) => s.set_voice_pan(idx, pan_q8),
         }
-        let e = self.engine;
-        let engine = e.set_master_gain_q8(gain);
-        OpenBox { engine, ..self }
     }
 
-    pub fn stop_all(self) -> OpenBox
-        requires { ValidBox self }
-        ensures { Made ValidBox (stopped self) result }
+    #[tactic(auto, unfolding(crate::specs::Boxes::with_master_gain))]
+    pub fn set_master_gain_q8(&mut self, gain: u8)
+        ensures { self.new ≡ with_master_gain self.old gain }
     {
-        if self.present {
-            let s = self.sounder;
-            let sounder = s.stop_all();
-            return OpenBox { sounder, ..self };
+        match self {
+            OpenBox::Engine(e) => e.set_master_gain_q8(gain),
+            OpenBox::Sounder(s) => s.set_master_gain_q8(gain),
         }
-        let e = self.engine;
-        let engine = e.stop_all();
-        OpenBox { engine, ..self }
     }
 
-    pub fn set_bank(self, bytes: &[u8], sample_rate_hz: u32, effect_count: u16) -> BoxChanged
-        requires { ValidBox self }
-        ensures { Made ValidBoxChanged (banked self sample_rate_hz effect_count (length bytes.now)) result }
+    #[tactic(auto, unfolding(crate::specs::Boxes::stopped))]
+    pub fn stop_all(&mut self)
+        ensures { self.new ≡ stopped self.old }
     {
-        if self.present {
-            let s = self.sounder;
-            let c = s.set_bank(bytes, sample_rate_hz, effect_count);
-            let outcome = c.outcome;
-            let sounder = c.sounder;
-            let held = OpenBox { sounder, ..self };
-            return BoxChanged { outcome, held };
+        match self {
+            OpenBox::Engine(e) => e.stop_all(),
+            OpenBox::Sounder(s) => s.stop_all(),
         }
-        let e = self.engine;
-        let c = e.set_bank(bytes, sample_rate_hz, effect_count);
-        let outcome = c.outcome;
-        let engine = c.engine;
-        let held = OpenBox { engine, ..self };
-        BoxChanged { outcome, held }
+    }
+
+    #[tactic(auto, unfolding(crate::specs::Boxes::banked))]
+    pub fn set_bank(
+        &mut self,
+        bytes: &[u8],
+        sample_rate_hz: u32,
+        effect_count: u16,
+    ) -> Result<(), AudioError>
+        ensures { record { held = self.new; gave = result } ≡ banked self.old sample_rate_hz effect_count (length bytes.now) }
+    {
+        match self {
+            OpenBox::Engine(e) => e.set_bank(bytes, sample_rate_hz, effect_count),
+            OpenBox::Sounder(s) => s.set_bank(bytes, sample_rate_hz, effect_count),
+        }
     }
 }

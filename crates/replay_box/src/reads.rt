@@ -1,12 +1,15 @@
 // What a script asks of the box that it has open.
-ghost use Rattle.std.specs.Prelude.{◌≡◌};
+ghost use Rattle.std.specs.Prelude.{◌≡◌, length};
 ghost use Rattle.error.specs.Told.{told};
+ghost use Rattle.laws.specs.Made.{Made};
 ghost use Rattle.allocate.specs.Allocation.{told_place};
 ghost use Rattle.bank.specs.Banks.{payload_under, payload_part};
 ghost use Rattle.bank.specs.Search.{found_given};
 ghost use Rattle.frame.specs.Lasting.{frames_left};
 ghost use Rattle.mixer.specs.Mixers as M;
-ghost use Rattle.replay_box.specs.Boxes.{ValidBox, mixer_of, place_in, ranks_of};
+ghost use Rattle.mixer.specs.Mixers.{Valid};
+ghost use Rattle.replay_box.specs.Boxes.{is_present, mixer_of, place_in, ranks_of, waiting_in, kept_in};
+ghost use Rattle.waiting.specs.Lines.{first_of, label_cells};
 
 use crate::OpenBox;
 use bank::EffectEntry;
@@ -14,175 +17,197 @@ use config::AudioConfig;
 use error::AudioError;
 use mixer::{Mixer, VoiceStealingPolicy};
 use voice::Voice;
+use waiting::Waiting;
 
 impl OpenBox {
     // The state, to be looked at.
-    pub fn state(self) -> Mixer
-        ensures { result ≡ mixer_of self }
+    #[tactic(auto, unfolding(crate::specs::Boxes::mixer_of))]
+    pub fn state(&self) -> Mixer
+        ensures { Made Valid (mixer_of self.now) result }
     {
-        if self.present {
-            let s = self.sounder;
-            let p = s.state();
-            return p.mixer;
+        match self {
+            OpenBox::Engine(e) => e.state(),
+            OpenBox::Sounder(s) => s.state().mixer,
         }
-        let e = self.engine;
-        e.state()
     }
 
     // Whether it is one of the present rules.
-    pub fn is_present(self) -> bool
-        ensures { result ≡ self.present }
+    pub fn is_present(&self) -> bool
+        ensures { result ≡ is_present self.now }
     {
-        self.present
+        matches!(self, OpenBox::Sounder(_))
     }
 
-    pub fn voice(self, idx: usize) -> Option<Voice>
-        requires { ValidBox self }
-        ensures { result ≡ M.voice_read (mixer_of self) idx }
+    #[tactic(auto, unfolding(crate::specs::Boxes::mixer_of))]
+    pub fn voice(&self, idx: usize) -> Option<Voice>
+        ensures { result ≡ M.voice_read (mixer_of self.now) idx }
     {
-        if self.present {
-            let s = self.sounder;
-            return s.voice(idx);
+        match self {
+            OpenBox::Engine(e) => e.voice(idx),
+            OpenBox::Sounder(s) => s.voice(idx),
         }
-        let e = self.engine;
-        e.voice(idx)
     }
 
-    pub fn voice_pan(self, idx: usize) -> Option<u8>
-        requires { ValidBox self }
-        ensures { result ≡ M.pan_read (mixer_of self) idx }
+    #[tactic(auto, unfolding(crate::specs::Boxes::mixer_of))]
+    pub fn voice_pan(&self, idx: usize) -> Option<u8>
+        ensures { result ≡ M.pan_read (mixer_of self.now) idx }
     {
-        if self.present {
-            let s = self.sounder;
-            return s.voice_pan(idx);
+        match self {
+            OpenBox::Engine(e) => e.voice_pan(idx),
+            OpenBox::Sounder(s) => s.voice_pan(idx),
         }
-        let e = self.engine;
-        e.voice_pan(idx)
     }
 
-    pub fn voice_count(self) -> usize
-        ensures { result ≡ (mixer_of self).n }
+    #[tactic(auto, unfolding(crate::specs::Boxes::mixer_of))]
+    pub fn voice_count(&self) -> usize
+        ensures { result ≡ (mixer_of self.now).n }
     {
-        if self.present {
-            let s = self.sounder;
-            return s.voice_count();
+        match self {
+            OpenBox::Engine(e) => e.voice_count(),
+            OpenBox::Sounder(s) => s.voice_count(),
         }
-        let e = self.engine;
-        e.voice_count()
     }
 
-    pub fn active_voice_count(self) -> usize
-        requires { ValidBox self }
-        ensures { result ≡ M.audible_count (mixer_of self) }
+    #[tactic(auto, unfolding(crate::specs::Boxes::mixer_of))]
+    pub fn active_voice_count(&self) -> usize
+        ensures { result ≡ M.audible_count (mixer_of self.now) }
     {
-        if self.present {
-            let s = self.sounder;
-            return s.active_voice_count();
+        match self {
+            OpenBox::Engine(e) => e.active_voice_count(),
+            OpenBox::Sounder(s) => s.active_voice_count(),
         }
-        let e = self.engine;
-        e.active_voice_count()
     }
 
-    pub fn is_playing(self) -> bool
-        requires { ValidBox self }
-        ensures { result ≡ M.playing (mixer_of self) }
+    #[tactic(auto, unfolding(crate::specs::Boxes::mixer_of))]
+    pub fn is_playing(&self) -> bool
+        ensures { result ≡ M.playing (mixer_of self.now) }
     {
-        if self.present {
-            let s = self.sounder;
-            return s.is_playing();
+        match self {
+            OpenBox::Engine(e) => e.is_playing(),
+            OpenBox::Sounder(s) => s.is_playing(),
         }
-        let e = self.engine;
-        e.is_playing()
     }
 
-    pub fn fade_frames_left(self) -> u8
-        requires { ValidBox self }
-        ensures { result ≡ frames_left (mixer_of self) }
+    #[tactic(auto, unfolding(crate::specs::Boxes::mixer_of))]
+    pub fn fade_frames_left(&self) -> u8
+        ensures { result ≡ frames_left (mixer_of self.now) }
     {
-        if self.present {
-            let s = self.sounder;
-            return s.fade_frames_left();
+        match self {
+            OpenBox::Engine(e) => e.fade_frames_left(),
+            OpenBox::Sounder(s) => s.fade_frames_left(),
         }
-        let e = self.engine;
-        e.fade_frames_left()
     }
 
-    pub fn allocate_voice(self, priority: u8) -> Option<usize>
-        requires { ValidBox self }
-        ensures { told_place result ≡ place_in self priority }
+    #[tactic(auto, unfolding(crate::specs::Boxes::place_in))]
+    pub fn allocate_voice(&self, priority: u8) -> Option<usize>
+        ensures { told_place result ≡ place_in self.now priority }
     {
-        if self.present {
-            let s = self.sounder;
-            return s.allocate_voice(priority);
+        match self {
+            OpenBox::Engine(e) => e.allocate_voice(priority),
+            OpenBox::Sounder(s) => s.allocate_voice(priority),
         }
-        let e = self.engine;
-        e.allocate_voice(priority)
     }
 
     // The rank of each voice, 255 for one that has none.
-    pub fn ranks(self) -> [u8; 16]
-        ensures { result ≡ ranks_of self }
+    #[tactic(auto, unfolding(crate::specs::Boxes::ranks_of))]
+    pub fn ranks(&self) -> [u8; 16]
+        ensures { result ≡ ranks_of self.now }
     {
-        if self.present {
-            let s = self.sounder;
-            return s.ranks();
+        match self {
+            OpenBox::Engine(_) => [255; 16],
+            OpenBox::Sounder(s) => s.ranks(),
         }
-        [255; 16]
     }
 
-    pub fn find_by_id(self, bytes: &[u8], id: u16) -> Result<EffectEntry, AudioError>
-        requires { ValidBox self }
-        ensures { told result ≡ found_given (mixer_of self).bank bytes.now id }
+    #[tactic(auto, unfolding(crate::specs::Boxes::mixer_of))]
+    pub fn find_by_id(&self, bytes: &[u8], id: u16) -> Result<EffectEntry, AudioError>
+        ensures { told result ≡ found_given (mixer_of self.now).bank bytes.now id }
     {
-        if self.present {
-            let s = self.sounder;
-            return s.find_by_id(bytes, id);
+        match self {
+            OpenBox::Engine(e) => e.find_by_id(bytes, id),
+            OpenBox::Sounder(s) => s.find_by_id(bytes, id),
         }
-        let e = self.engine;
-        e.find_by_id(bytes, id)
     }
 
-    pub fn payload_number(self, bytes: &[u8], offset: u32, len: u32) -> Result<(), AudioError>
-        ensures { told result ≡ payload_under self.present (mixer_of self).bank bytes.now offset len }
+    #[tactic(auto, unfolding(crate::specs::Boxes::mixer_of))]
+    pub fn payload_number(&self, bytes: &[u8], offset: u32, len: u32) -> Result<(), AudioError>
+        ensures { told result ≡ payload_under (is_present self.now) (mixer_of self.now).bank bytes.now offset len }
     {
-        if self.present {
-            let s = self.sounder;
-            return s.payload_number(bytes, offset, len);
+        match self {
+            OpenBox::Engine(e) => e.payload_number(bytes, offset, len),
+            OpenBox::Sounder(s) => s.payload_number(bytes, offset, len),
         }
-        let e = self.engine;
-        e.payload_number(bytes, offset, len)
     }
 
-    pub fn payload(self, bytes: &[u8], offset: u32, len: u32) -> &[u8]
-        ensures { result.now ≡ payload_part (mixer_of self).bank bytes.now offset len }
+    #[tactic(auto, unfolding(crate::specs::Boxes::mixer_of))]
+    pub fn payload<'a>(&self, bytes: &'a [u8], offset: u32, len: u32) -> &'a [u8]
+        ensures { result.now ≡ payload_part (mixer_of self.now).bank bytes.now offset len }
     {
-        if self.present {
-            let s = self.sounder;
-            return s.payload(bytes, offset, len);
+        match self {
+            OpenBox::Engine(e) => e.payload(bytes, offset, len),
+            OpenBox::Sounder(s) => s.payload(bytes, offset, len),
         }
-        let e = self.engine;
-        e.payload(bytes, offset, len)
     }
 
-    pub fn config(self) -> AudioConfig
-        ensures { result ≡ (mixer_of self).config }
+    #[tactic(auto, unfolding(crate::specs::Boxes::mixer_of))]
+    pub fn config(&self) -> AudioConfig
+        ensures { result ≡ (mixer_of self.now).config }
     {
-        if self.present {
-            let s = self.sounder;
-            return s.config();
+        match self {
+            OpenBox::Engine(e) => e.config(),
+            OpenBox::Sounder(s) => s.config(),
         }
-        let e = self.engine;
-        e.config()
     }
 
-    pub fn stealing_policy(self) -> VoiceStealingPolicy
-        ensures { result ≡ (mixer_of self).stealing_policy }
+    #[tactic(auto, unfolding(crate::specs::Boxes::mixer_of))]
+    pub fn stealing_policy(&self) -> VoiceStealingPolicy
+        ensures { result ≡ (mixer_of self.now).stealing_policy }
     {
-        if self.present {
-            let s = self.sounder;
-            return s.stealing_policy();
+        match self {
+            OpenBox::Engine(e) => e.stealing_policy(),
+            OpenBox::Sounder(s) => s.stealing_policy(),
         }
-        let e = self.engine;
-        e.stealing_policy()
+    }
+
+    // Requests that wait: in document 01's box there are none.
+    #[tactic(auto, unfolding(crate::specs::Boxes::waiting_in))]
+    pub fn waiting_count(&self) -> usize
+        ensures { result ≡ length (waiting_in self.now) }
+    {
+        match self {
+            OpenBox::Engine(_) => 0,
+            OpenBox::Sounder(s) => s.waiting_count(),
+        }
+    }
+
+    // The labels that wait, next first; 0 in the cells past them.
+    #[tactic(auto, unfolding(crate::specs::Boxes::waiting_in))]
+    pub fn waiting_labels(&self) -> [u16; 32]
+        ensures { result ≡ label_cells (waiting_in self.now) }
+    {
+        match self {
+            OpenBox::Engine(_) => [0; 32],
+            OpenBox::Sounder(s) => s.waiting_labels(),
+        }
+    }
+
+    #[tactic(auto, unfolding(crate::specs::Boxes::waiting_in))]
+    pub fn next_in_line(&self) -> Option<Waiting>
+        ensures { result ≡ first_of (waiting_in self.now) }
+    {
+        match self {
+            OpenBox::Engine(_) => None,
+            OpenBox::Sounder(s) => s.next_in_line(),
+        }
+    }
+
+    #[tactic(auto, unfolding(crate::specs::Boxes::kept_in))]
+    pub fn kept_refusal(&self) -> Option<(AudioError, u16)>
+        ensures { result ≡ kept_in self.now }
+    {
+        match self {
+            OpenBox::Engine(_) => None,
+            OpenBox::Sounder(s) => s.kept_refusal(),
+        }
     }
 }

@@ -1,135 +1,79 @@
 // The calls that start voices of the box that a script has open.
-ghost use Rattle.laws.specs.Made.{Made};
-ghost use Rattle.replay_box.specs.Boxes.{ValidBox, ValidBoxChanged, ValidBoxPlayed, toned, poly_bleped, faded, faded_on, played};
+ghost use Rattle.std.specs.Prelude.{◌≡◌};
+ghost use Rattle.replay_box.specs.Boxes.{toned, poly_bleped, faded, played};
 ghost use Rattle.sounder.specs.Sounders.{request_of};
 
-use super::{BoxChanged, BoxPlayed, OpenBox};
+use crate::OpenBox;
 use envelope::AdsrSpec;
+use error::AudioError;
 use polyblep::PolyBlepWaveform;
 use tone::Waveform;
 
 impl OpenBox {
-    pub fn play_tone(self, freq_hz: u32, duration_ms: u16, waveform: Waveform) -> OpenBox
-        requires { ValidBox self }
-        ensures { Made ValidBox (toned self freq_hz duration_ms waveform) result }
+    #[tactic(auto, unfolding(crate::specs::Boxes::toned))]
+    pub fn play_tone(&mut self, freq_hz: u32, duration_ms: u16, waveform: Waveform)
+        ensures { self.new ≡ toned self.old freq_hz duration_ms waveform }
     {
-        if self.present {
-            let s = self.sounder;
-            let sounder = s.play_tone(freq_hz, duration_ms, waveform);
-            return OpenBox { sounder, ..self };
+        match self {
+            OpenBox::Engine(e) => e.play_tone(freq_hz, duration_ms, waveform),
+            OpenBox::Sounder(s) => s.play_tone(freq_hz, duration_ms, waveform),
         }
-        let e = self.engine;
-        let engine = e.play_tone(freq_hz, duration_ms, waveform);
-        OpenBox { engine, ..self }
     }
 
-    pub fn play_polyblep(
-        self,
-        freq_hz: u32,
-        duration_ms: u16,
-        waveform: PolyBlepWaveform,
-    ) -> OpenBox
-        requires { ValidBox self }
-        ensures { Made ValidBox (poly_bleped self freq_hz duration_ms waveform) result }
+    #[tactic(auto, unfolding(crate::specs::Boxes::poly_bleped))]
+    pub fn play_polyblep(&mut self, freq_hz: u32, duration_ms: u16, waveform: PolyBlepWaveform)
+        ensures { self.new ≡ poly_bleped self.old freq_hz duration_ms waveform }
     {
-        if self.present {
-            let s = self.sounder;
-            let sounder = s.play_polyblep(freq_hz, duration_ms, waveform);
-            return OpenBox { sounder, ..self };
+        match self {
+            OpenBox::Engine(e) => e.play_polyblep(freq_hz, duration_ms, waveform),
+            OpenBox::Sounder(s) => s.play_polyblep(freq_hz, duration_ms, waveform),
         }
-        let e = self.engine;
-        let engine = e.play_polyblep(freq_hz, duration_ms, waveform);
-        OpenBox { engine, ..self }
     }
 
+    #[tactic(auto, unfolding(crate::specs::Boxes::faded))]
     pub fn crossfade_to(
-        self,
+        &mut self,
         bytes: &[u8],
         effect_id: u16,
         duration_ms: u16,
         adsr: AdsrSpec,
-    ) -> BoxChanged
-        requires { ValidBox self }
-        ensures { Made ValidBoxChanged (faded self bytes.now effect_id duration_ms adsr) result }
+    ) -> Result<(), AudioError>
+        ensures { record { held = self.new; gave = result } ≡ faded self.old bytes.now effect_id duration_ms adsr }
     {
-        if self.present {
-            let s = self.sounder;
-            let c = s.crossfade_to(bytes, effect_id, duration_ms, adsr);
-            let outcome = c.outcome;
-            let sounder = c.sounder;
-            let held = OpenBox { sounder, ..self };
-            return BoxChanged { outcome, held };
+        match self {
+            OpenBox::Engine(e) => e.crossfade_to(bytes, effect_id, duration_ms, adsr),
+            OpenBox::Sounder(s) => s.crossfade_to(bytes, effect_id, duration_ms, adsr),
         }
-        let e = self.engine;
-        let c = e.crossfade_to(bytes, effect_id, duration_ms, adsr);
-        let outcome = c.outcome;
-        let engine = c.engine;
-        let held = OpenBox { engine, ..self };
-        BoxChanged { outcome, held }
     }
 
-    // Of the box of the present rules: document 01's has no such call.
-    pub fn crossfade_sounding_on(
-        self,
-        bytes: &[u8],
-        effect_id: u16,
-        duration_ms: u16,
-        adsr: AdsrSpec,
-    ) -> BoxChanged
-        requires { ValidBox self }
-        ensures { Made ValidBoxChanged (faded_on self bytes.now effect_id duration_ms adsr) result }
-    {
-        let s = self.sounder;
-        let c = s.crossfade_sounding_on(bytes, effect_id, duration_ms, adsr);
-        let outcome = c.outcome;
-        let sounder = c.sounder;
-        let held = OpenBox { sounder, ..self };
-        BoxChanged { outcome, held }
-    }
-
+    #[tactic(auto, unfolding(crate::specs::Boxes::played))]
     pub fn play_with_priority(
-        self,
+        &mut self,
         bytes: &[u8],
         effect_id: u16,
         adsr: AdsrSpec,
         priority: u8,
-    ) -> BoxPlayed
-        requires { ValidBox self }
-        ensures { Made ValidBoxPlayed (played self bytes.now (request_of effect_id adsr priority)) result }
+    ) -> Result<usize, AudioError>
+        ensures { record { held = self.new; gave = result } ≡ played self.old bytes.now (request_of effect_id adsr priority) }
     {
-        if self.present {
-            let s = self.sounder;
-            let c = s.play_with_priority(bytes, effect_id, adsr, priority);
-            let outcome = c.outcome;
-            let sounder = c.sounder;
-            let held = OpenBox { sounder, ..self };
-            return BoxPlayed { outcome, held };
+        match self {
+            OpenBox::Engine(e) => e.play_with_priority(bytes, effect_id, adsr, priority),
+            OpenBox::Sounder(s) => s.play_with_priority(bytes, effect_id, adsr, priority),
         }
-        let e = self.engine;
-        let c = e.play_with_priority(bytes, effect_id, adsr, priority);
-        let outcome = c.outcome;
-        let engine = c.engine;
-        let held = OpenBox { engine, ..self };
-        BoxPlayed { outcome, held }
     }
 
-    pub fn play(self, bytes: &[u8], effect_id: u16, adsr: AdsrSpec) -> BoxPlayed
-        requires { ValidBox self }
-        ensures { Made ValidBoxPlayed (played self bytes.now (request_of effect_id adsr 128)) result }
+    #[tactic(auto, unfolding(crate::specs::Boxes::played))]
+    pub fn play(
+        &mut self,
+        bytes: &[u8],
+        effect_id: u16,
+        adsr: AdsrSpec,
+    ) -> Result<usize, AudioError>
+        ensures { record { held = self.new; gave = result } ≡ played self.old bytes.now (request_of effect_id adsr 128) }
     {
-        if self.present {
-            let s = self.sounder;
-            let c = s.play(bytes, effect_id, adsr);
-            let outcome = c.outcome;
-            let sounder = c.sounder;
-            let held = OpenBox { sounder, ..self };
-            return BoxPlayed { outcome, held };
+        match self {
+            OpenBox::Engine(e) => e.play(bytes, effect_id, adsr),
+            OpenBox::Sounder(s) => s.play(bytes, effect_id, adsr),
         }
-        let e = self.engine;
-        let c = e.play(bytes, effect_id, adsr);
-        let outcome = c.outcome;
-        let engine = c.engine;
-        let held = OpenBox { engine, ..self };
-        BoxPlayed { outcome, held }
     }
 }

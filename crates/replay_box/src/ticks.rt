@@ -1,140 +1,58 @@
 // One frame of the box that a script has open.
-ghost use Rattle.laws.specs.Made.{Made};
-ghost use Rattle.replay_box.specs.Boxes.{ValidBox};
-ghost use Rattle.replay_box.specs.Frames.{ValidSample, ValidDuty, ValidSides, ValidWideSides, sampled, dutied, sided, wide_sided};
+ghost use Rattle.std.specs.Prelude.{◌≡◌};
+ghost use Rattle.replay_box.specs.Frames.{sampled, dutied, sided, wide_sided};
 
 use crate::OpenBox;
 
-#[derive(Clone, Copy)]
-pub struct BoxSample {
-    pub held: OpenBox,
-    pub pcm: i8,
-}
-
-#[derive(Clone, Copy)]
-pub struct BoxDuty {
-    pub held: OpenBox,
-    pub duty: u16,
-}
-
-#[derive(Clone, Copy)]
-pub struct BoxSides {
-    pub held: OpenBox,
-    pub left: i8,
-    pub right: i8,
-}
-
-#[derive(Clone, Copy)]
-pub struct BoxWideSides {
-    pub held: OpenBox,
-    pub left: i16,
-    pub right: i16,
-}
-
 impl OpenBox {
-    pub fn tick_pcm(self, bytes: &[u8]) -> BoxSample
-        requires { ValidBox self }
-        ensures { Made ValidSample (sampled bytes.now self) result }
+    #[tactic(auto, unfolding(crate::specs::Frames::sampled))]
+    pub fn tick_pcm(&mut self, bytes: &[u8]) -> i8
+        ensures { record { held = self.new; gave = result } ≡ sampled bytes.now self.old }
     {
-        if self.present {
-            let s = self.sounder;
-            let f = s.tick_pcm(bytes);
-            let sounder = f.sounder;
-            let held = OpenBox { sounder, ..self };
-            return BoxSample { held, pcm: f.pcm };
-        }
-        let e = self.engine;
-        let f = e.tick_pcm();
-        let engine = f.engine;
-        let held = OpenBox { engine, ..self };
-        BoxSample { held, pcm: f.pcm }
-    }
-
-    pub fn tick(self, bytes: &[u8]) -> BoxDuty
-        requires { ValidBox self }
-        ensures { Made ValidDuty (dutied bytes.now self) result }
-    {
-        if self.present {
-            let s = self.sounder;
-            let f = s.tick(bytes);
-            let sounder = f.sounder;
-            let held = OpenBox { sounder, ..self };
-            return BoxDuty { held, duty: f.duty };
-        }
-        let e = self.engine;
-        let f = e.tick();
-        let engine = f.engine;
-        let held = OpenBox { engine, ..self };
-        BoxDuty { held, duty: f.duty }
-    }
-
-    pub fn tick_pwm(self, bytes: &[u8]) -> BoxDuty
-        requires { ValidBox self }
-        ensures { Made ValidDuty (dutied bytes.now self) result }
-    {
-        if self.present {
-            let s = self.sounder;
-            let f = s.tick_pwm(bytes);
-            let sounder = f.sounder;
-            let held = OpenBox { sounder, ..self };
-            return BoxDuty { held, duty: f.duty };
-        }
-        let e = self.engine;
-        let f = e.tick_pwm();
-        let engine = f.engine;
-        let held = OpenBox { engine, ..self };
-        BoxDuty { held, duty: f.duty }
-    }
-
-    pub fn tick_stereo_pcm(self, bytes: &[u8]) -> BoxSides
-        requires { ValidBox self }
-        ensures { Made ValidSides (sided bytes.now self) result }
-    {
-        if self.present {
-            let s = self.sounder;
-            let f = s.tick_stereo_pcm(bytes);
-            let sounder = f.sounder;
-            let held = OpenBox { sounder, ..self };
-            return BoxSides {
-                held,
-                left: f.left,
-                right: f.right,
-            };
-        }
-        let e = self.engine;
-        let f = e.tick_stereo_pcm();
-        let engine = f.engine;
-        let held = OpenBox { engine, ..self };
-        BoxSides {
-            held,
-            left: f.left,
-            right: f.right,
+        match self {
+            OpenBox::Engine(e) => e.tick_pcm(),
+            OpenBox::Sounder(s) => s.tick_pcm(bytes),
         }
     }
 
-    pub fn tick_stereo_i16(self, bytes: &[u8]) -> BoxWideSides
-        requires { ValidBox self }
-        ensures { Made ValidWideSides (wide_sided bytes.now self) result }
+    #[tactic(auto, unfolding(crate::specs::Frames::dutied))]
+    pub fn tick(&mut self, bytes: &[u8]) -> u16
+        ensures { record { held = self.new; gave = result } ≡ dutied bytes.now self.old }
     {
-        if self.present {
-            let s = self.sounder;
-            let f = s.tick_stereo_i16(bytes);
-            let sounder = f.sounder;
-            let held = OpenBox { sounder, ..self };
-            return BoxWideSides {
-                held,
-                left: f.left,
-                right: f.right,
-            };
+        match self {
+            OpenBox::Engine(e) => e.tick(),
+            OpenBox::Sounder(s) => s.tick(bytes),
         }
-        let e = self.engine;
-        let f = e.tick_stereo_i16();
-        let engine = f.engine;
-        let held = OpenBox { engine, ..self };
-        BoxWideSides {
-            held,
-            left: f.left,
-            right: f.right,
+    }
+
+    // Another name of tick.
+    #[tactic(auto, unfolding(crate::specs::Frames::dutied))]
+    pub fn tick_pwm(&mut self, bytes: &[u8]) -> u16
+        ensures { record { held = self.new; gave = result } ≡ dutied bytes.now self.old }
+    {
+        match self {
+            OpenBox::Engine(e) => e.tick_pwm(),
+            OpenBox::Sounder(s) => s.tick_pwm(bytes),
+        }
+    }
+
+    #[tactic(auto, unfolding(crate::specs::Frames::sided))]
+    pub fn tick_stereo_pcm(&mut self, bytes: &[u8]) -> (i8, i8)
+        ensures { record { held = self.new; gave = result } ≡ sided bytes.now self.old }
+    {
+        match self {
+            OpenBox::Engine(e) => e.tick_stereo_pcm(),
+            OpenBox::Sounder(s) => s.tick_stereo_pcm(bytes),
+        }
+    }
+
+    #[tactic(auto, unfolding(crate::specs::Frames::wide_sided))]
+    pub fn tick_stereo_i16(&mut self, bytes: &[u8]) -> (i16, i16)
+        ensures { record { held = self.new; gave = result } ≡ wide_sided bytes.now self.old }
+    {
+        match self {
+            OpenBox::Engine(e) => e.tick_stereo_i16(),
+            OpenBox::Sounder(s) => s.tick_stereo_i16(bytes),
         }
     }
 }

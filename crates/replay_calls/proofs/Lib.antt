@@ -1,3 +1,1 @@
--- What the proofs here share.
---     Calling    a call that may be refused, with its reply
-pub mod Calling
+-- Each function's proof stands by itself.

@@ -8,7 +8,7 @@ ghost use Rattle.replay_cells.specs.Cells.{byte_text, wide_text, i8_text, i16_te
 
 use hex_digits::{end_line, put};
 
-// A number as a cell of a list: its digits from a place on. It gives the place after them.
+// A number as a cell of a list: its digits from a place on. It gives the place after them. Buffer and place go together, as `hex_digits::put` has them.
 pub trait Cell: Copy {
     ghost text: { Self → List ℕ };
 

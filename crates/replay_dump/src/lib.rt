@@ -51,6 +51,7 @@ fn bank_fields(bank: Option<SoundBank>) -> BankFields
     }
 }
 
+// Here and below a buffer and a place in it, as `hex_digits::put` has them: there is no heap for a Vec.
 // N, policy, bank, rate, period, duty mode.
 fn put_settings(out: &mut [u8; 262144], m: Mixer) -> usize
     ensures { Laid out.old 0 (setting_fields m) out.new result × (result ≤ 128) }
@@ -107,8 +108,9 @@ fn put_voices(out: &mut [u8; 262144], at: usize, m: Mixer) -> usize
     ensures { Laid out.old at (voice_lines (voices_of m)) out.new result × (result ≤ at + 337 * 16) }
 {
     let mut next = at;
-    for i in 0..m.n {
-        let end = put_voice(out, next, m.voices[i]);
+    let voices = &m.voices[..m.n];
+    for v in voices {
+        let end = put_voice(out, next, *v);
         next = end_line(out, end);
     }
     next

@@ -99,6 +99,7 @@ fn bits_of(x: f32) -> u64
     u64::from(x.to_bits())
 }
 
+// Here and below a buffer and a place in it, as `hex_digits::put` has them: there is no heap for a Vec.
 fn put_tone(out: &mut [u8; 262144], at: usize, v: ToneVoice) -> usize
     ensures { Laid out.old at (tone_fields v) out.new result × (result ≤ at + 96) }
 {

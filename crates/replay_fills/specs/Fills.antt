@@ -1,8 +1,7 @@
 -- The records 20 to 2A: the buffer that each fills, and what is printed of it. Assumes nothing.
-use Rattle.std.specs.Prelude.{ℕ, cond, List, ◌++◌, map, eqb, ℤ, drop, replicate}
+use Rattle.std.specs.Prelude.{ℕ, ◌≡◌, ◌≤◌, cond, List, ◌++◌, length, map, eqb, ℤ, drop, replicate, None, Option, Some}
 use Rattle.std.specs.Int.{w8, w16, w32}
 use Rattle.std.proofs.Common.{to_z}
-use Rattle.laws.specs.Made.{Made}
 use Rattle.laws.specs.Runs.{after, given}
 use Rattle.output.specs.Levels.{raised}
 use Rattle.buffers.specs.Shapes.{shape_step, shape_raw, frames_in, cells_in, level_next, level_cell}
@@ -12,11 +11,11 @@ use Rattle.buffers.specs.declared.Shape.{Shape}
 use Rattle.buffers.specs.declared.Shape.TheVariants.{Once, Doubled, Sides}
 use Rattle.buffers.specs.Buffers.{to_i8, to_i16, to_i32}
 use Rattle.hex_digits.specs.Hex.{Wrote}
-use Rattle.replay_box.specs.Boxes.{ValidBox}
 use Rattle.replay_box.specs.Frames.{frames}
 use Rattle.replay_box.specs.declared.OpenBox.{OpenBox}
 use Rattle.replay_cells.specs.Cells.{byte_text, wide_text, i8_text, i16_text, i32_text, numbered_text}
-use Rattle.replay_fills.specs.declared.Shown.{Shown}
+use Rattle.replay_fills.specs.declared.Buffer.{Buffer}
+use Rattle.replay_fills.specs.declared.Buffer.TheVariants as K
 
 -- "Before the call every byte of the buffer is A5", at each width
 abbrev pub blank_u8 : ℕ
@@ -39,17 +38,20 @@ pub record Fill : Type 0 where
   pub text : List ℕ
   pub held : OpenBox
 
-module _ {A : Type 0} (text : A → List ℕ) (blank : A) (step : OpenBox → OpenBox) (gives : OpenBox → List A) where
+module _ {A : Type 0} (text : A → List ℕ) (step : OpenBox → OpenBox) (gives : OpenBox → List A) where
   -- "the filled length in four digits, and on the same line every cell of the buffer, written or not, at the cell's width"
-  unfoldable pub filled_by : ℕ → ℕ → ℕ → OpenBox → Fill
-  filled_by count written n b = record { text = numbered_text 4 written text (given step gives count b ++ drop written (replicate n blank)); held = after step count b }
+  unfoldable pub filled_over : ℕ → ℕ → List A → OpenBox → Fill
+  filled_over count written cells b = record { text = numbered_text 4 written text (given step gives count b ++ drop written cells); held = after step count b }
 
 -- by shape and by level: a frame for each cell, or for each pair of cells, where an odd last one is not written
+abbrev pub shaped_over : {A : Type 0} → (A → List ℕ) → (ℤ → A) → Shape → ℕ → List A → List ℕ → OpenBox → Fill
+shaped_over text scale shape n cells bytes b = filled_over text (shape_step (frames bytes) shape) (λ b. map scale (shape_raw (frames bytes) shape b)) (frames_in shape n) (cells_in shape n) cells b
+
 abbrev pub shaped_fill : {A : Type 0} → (A → List ℕ) → A → (ℤ → A) → Shape → ℕ → List ℕ → OpenBox → Fill
-shaped_fill text blank scale shape n bytes b = filled_by text blank (shape_step (frames bytes) shape) (λ b. map scale (shape_raw (frames bytes) shape b)) (frames_in shape n) (cells_in shape n) n b
+shaped_fill text blank scale shape n bytes b = shaped_over text scale shape n (replicate n blank) bytes b
 
 abbrev pub level_fill : Level → ℕ → List ℕ → OpenBox → Fill
-level_fill level n bytes b = filled_by wide_text blank_u16 (level_next (frames bytes) level) (level_cell (frames bytes) level) n n n b
+level_fill level n bytes b = filled_over wide_text (level_next (frames bytes) level) (level_cell (frames bytes) level) n n (replicate n blank_u16) b
 
 -- 20: "duty"
 abbrev pub duty_fill : ℕ → List ℕ → OpenBox → Fill
@@ -95,22 +97,39 @@ panned_i16_fill n bytes b = shaped_fill i16_text blank_i16 to_i16 Sides n bytes 
 abbrev pub panned_i8_fill : ℕ → List ℕ → OpenBox → Fill
 panned_i8_fill n bytes b = shaped_fill i8_text blank_i8 to_i8 Sides n bytes b
 
--- by the code, one of 20 to 2A
-unfoldable pub fill_for : ℕ → ℕ → List ℕ → OpenBox → Fill
-fill_for code n bytes b =
-    cond (eqb code 0x20) (duty_fill n bytes b)
-    (cond (eqb code 0x21) (pcm_i8_fill n bytes b)
-    (cond (eqb code 0x22) (pcm_i16_fill n bytes b)
-    (cond (eqb code 0x23) (pcm_i32_fill n bytes b)
-    (cond (eqb code 0x24) (dac_u8_fill n bytes b)
-    (cond (eqb code 0x25) (dac_u12_fill n bytes b)
-    (cond (eqb code 0x26) (dac_u16_fill n bytes b)
-    (cond (eqb code 0x27) (stereo_i16_fill n bytes b)
-    (cond (eqb code 0x28) (stereo_i32_fill n bytes b)
-    (cond (eqb code 0x29) (panned_i16_fill n bytes b)
-    (panned_i8_fill n bytes b))))))))))
+-- the record of a code
+unfoldable pub buffer_of : ℕ → Option Buffer
+buffer_of code =
+    cond (eqb code 0x20) (Some K.Duty)
+    (cond (eqb code 0x21) (Some K.PcmI8)
+    (cond (eqb code 0x22) (Some K.PcmI16)
+    (cond (eqb code 0x23) (Some K.PcmI32)
+    (cond (eqb code 0x24) (Some K.DacU8)
+    (cond (eqb code 0x25) (Some K.DacU12)
+    (cond (eqb code 0x26) (Some K.DacU16)
+    (cond (eqb code 0x27) (Some K.StereoI16)
+    (cond (eqb code 0x28) (Some K.StereoI32)
+    (cond (eqb code 0x29) (Some K.PannedI16)
+    (cond (eqb code 0x2A) (Some K.PannedI8) None))))))))))
+
+abbrev pub fill_for : Buffer → ℕ → List ℕ → OpenBox → Fill
+fill_for K.Duty n bytes b = duty_fill n bytes b
+fill_for K.PcmI8 n bytes b = pcm_i8_fill n bytes b
+fill_for K.PcmI16 n bytes b = pcm_i16_fill n bytes b
+fill_for K.PcmI32 n bytes b = pcm_i32_fill n bytes b
+fill_for K.DacU8 n bytes b = dac_u8_fill n bytes b
+fill_for K.DacU12 n bytes b = dac_u12_fill n bytes b
+fill_for K.DacU16 n bytes b = dac_u16_fill n bytes b
+fill_for K.StereoI16 n bytes b = stereo_i16_fill n bytes b
+fill_for K.StereoI32 n bytes b = stereo_i32_fill n bytes b
+fill_for K.PannedI16 n bytes b = panned_i16_fill n bytes b
+fill_for K.PannedI8 n bytes b = panned_i8_fill n bytes b
+
+-- no cell has more than 8 digits
+abbrev pub Short : {A : Type 0} → (A → List ℕ) → Type 0
+Short {A} text = (x : A) → length (text x) ≤ 8
 
 -- the text was laid over a buffer from its front on, and the box is the one after the fill
-pub record Shows (f : Fill) (before after : List ℕ) (r : Shown) : Type 0 where
-  pub laid : Wrote before 0 f.text after r.len
-  pub held : Made ValidBox f.held r.held
+pub record Shows (f : Fill) (before after : List ℕ) (b : OpenBox) (len : ℕ) : Type 0 where
+  pub laid : Wrote before 0 f.text after len
+  pub held : b ≡ f.held

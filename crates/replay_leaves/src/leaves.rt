@@ -6,7 +6,7 @@ use crate::Reply;
 use hex_digits::{byte_at, long_at};
 use tier::EffectKind;
 
-// By document 01's rule, or by the present one.
+// By document 01's rule, or by the present one. The flag goes to `fixed` as it is, and chooses no step here.
 #[tactic(auto, unfolding(crate::specs::Replies::gain_reply))]
 pub(crate) fn gain(l: &[u8], present: bool) -> Reply
     ensures { result ≡ gain_reply present l.now }

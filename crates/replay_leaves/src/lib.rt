@@ -31,7 +31,8 @@ pub enum Reply {
     Counts,
 }
 
-// How many bytes the answer has, and whether the run goes on.
+// How many bytes the answer has, in its caller's memory, and whether the run goes on. Not an Option of the length: what a bad line is
+// answered is written too.
 #[derive(Clone, Copy, Debug, PartialEq, Eq)]
 pub struct Answered {
     pub len: usize,
@@ -115,7 +116,9 @@ fn bank_reply(l: &[u8]) -> Reply
     }
 }
 
-// By the code. Each reader is total, so a record's length is looked at last. Document 02's records:
+// By the code. Each reader is total, so a record's length is looked at last. These matches are the format's table of codes, and nothing
+// else uses one: an enum with its TryFrom would be the table once more. Document 02's records:
+#[tactic(auto, using(std::proofs::lemmas::Bool::Decides::nat_tests), unfolding(crate::specs::Replies::added_reply))]
 fn added_reply(code: u8, l: &[u8]) -> Reply
     ensures { result ≡ added_reply code l.now }
 {
@@ -133,6 +136,7 @@ fn added_reply(code: u8, l: &[u8]) -> Reply
 }
 
 // Our own, of document 01's box.
+#[tactic(auto, using(std::proofs::lemmas::Bool::Decides::nat_tests), unfolding(crate::specs::Replies::own_reply))]
 fn own_reply(code: u8, l: &[u8]) -> Reply
     ensures { result ≡ own_reply code l.now }
 {
@@ -156,6 +160,7 @@ fn own_reply(code: u8, l: &[u8]) -> Reply
 }
 
 // The replay format's.
+#[tactic(auto, using(std::proofs::lemmas::Bool::Decides::nat_tests))]
 fn reply_for(code: u8, l: &[u8]) -> Reply
     ensures { result ≡ reply_for code l.now }
 {

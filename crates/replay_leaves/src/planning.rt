@@ -5,6 +5,7 @@ ghost use Rattle.replay_leaves.specs.Planning.{counts_text};
 
 use hex_digits::{byte_at, end_line, put};
 
+// The number is one that is printed, 0 where nothing was refused, and zeros stand for counts that are not there: no Result.
 fn put_counts(out: &mut [u8; 262144], number: u8, refused: u32, accepted: u32) -> usize
     ensures { Wrote out.old 0 (hex_of 2 number ++ hex_of 8 refused ++ hex_of 8 accepted ++ newline) out.new result }
 {

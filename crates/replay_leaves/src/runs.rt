@@ -27,6 +27,7 @@ fn open_at(l: &[u8]) -> Result<Envelope, AudioError>
     Envelope::open(spec_at(l, 1), long_at(l, 8))
 }
 
+// Here and below a buffer and a place in it, as `hex_digits::put` has them: there is no heap for a Vec.
 // Ticks, each with its level after it. This run and those of duties, requests and frames stay apart: one over any step and text would be
 // no plainer, since a voice asks at each step that it is valid, and a duty's sample stands at its place in the line.
 fn ticks(out: &mut [u8; 262144], at: usize, first: Envelope, count: u16) -> Ticked
@@ -110,7 +111,7 @@ fn mapper_at(l: &[u8]) -> PwmMapper
     }
 }
 
-// The samples from byte 8 on, each with its duty.
+// The samples from byte 8 on, each with its duty. By the index: a sample is a byte of the record, two digits of the line.
 fn map_all(
     out: &mut [u8; 262144],
     l: &[u8],

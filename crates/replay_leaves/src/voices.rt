@@ -42,6 +42,8 @@ pub(crate) fn voice_reply(l: &[u8]) -> Reply
     }
 }
 
+// Here and below the line's rate is one that a voice takes, as `voice` has looked. A type for such a line would be made and read in this
+// file alone.
 fn voice_at(l: &[u8]) -> Voice
     requires { long_at l.now 9 ≤ 65537 }
     ensures { Made Valid (voice_at l.now) result }
@@ -84,6 +86,7 @@ fn held_at(l: &[u8]) -> Voice
     let_go(byte_at(l, 26), voice)
 }
 
+// Here and below a buffer and a place in it, as `hex_digits::put` has them: there is no heap for a Vec.
 fn frames(out: &mut [u8; 262144], at: usize, first: Step<Voice, Option<i8>>, count: u16) -> Framed
     requires { ValidStep first }
     ensures laid { Laid out.old at (texts mono_frame frame_text count first) out.new result.next }

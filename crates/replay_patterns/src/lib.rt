@@ -11,7 +11,7 @@ ghost use Rattle.replay_patterns.specs.Records.{samples_at, lines_of, pattern_te
 use evacuation::{Pattern, Reader};
 use hex_digits::{bytes_from, end_line, long_at, put, put_line, wide_at};
 
-// Each sample in two digits, below the number's line. A run may go on past sample 2^32 − 1.
+// Each sample in two digits, below the number's line. A run may go on past sample 2^32 − 1. The loop counts samples, which are in no array.
 fn run(l: &[u8], p: Pattern, out: &mut [u8; 262144]) -> usize
     ensures { Wrote out.old 0 (lines_of (value (samples_at p l.now))) out.new result }
 {
@@ -51,6 +51,7 @@ fn recording_len(digits: usize) -> usize
     (digits / 2).saturating_sub(5).min(4092)
 }
 
+// The number and the answer stand side by side in the line, 0 where nothing is refused: a Result would be taken apart into just these two.
 fn put_answer(out: &mut [u8; 262144], number: u8, answer: bool) -> usize
     ensures { Wrote out.old 0 (hex_of 2 number ++ hex_of 2 (byte_of answer) ++ newline) out.new result }
 {

@@ -14,7 +14,7 @@ use Rattle.voice.specs.declared.Voice.{Voice}
 use Rattle.mixer.specs.Mixers.{Valid, voice_read}
 use Rattle.mixer.specs.declared.Mixer.{Mixer}
 use Rattle.bank.specs.Banks.{payload_under, payload_given, part_of, payload_part}
-use Rattle.error.specs.Told.{told, Told, value, refused, number_in}
+use Rattle.error.specs.Told.{Told, value, refused, number_in}
 use Rattle.hex_digits.specs.Hex.{wide_at, long_at, Wrote}
 use Rattle.replay_cells.specs.Cells.{byte_text, numbered_text}
 use Rattle.replay_replies.specs.Texts.{payload_text}

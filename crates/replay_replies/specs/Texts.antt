@@ -9,7 +9,7 @@ use Rattle.replay_cells.specs.Cells.{byte_text, wide_text, numbered_text}
 use Rattle.mixer.specs.Mixers.{voice_read}
 use Rattle.config.specs.declared.AudioConfig.{AudioConfig}
 use Rattle.replay_dump.specs.Dumps.{policy_number, mode_number, voice_line, dump_text}
-use Rattle.replay_box.specs.Boxes.{mixer_of, ranks_of, waiting_in}
+use Rattle.replay_box.specs.Boxes.{is_present, mixer_of, ranks_of, waiting_in}
 use Rattle.replay_box.specs.declared.OpenBox.{OpenBox}
 use Rattle.replay_calls.specs.declared.Reply.{Reply}
 use Rattle.replay_calls.specs.declared.Reply.TheVariants as R
@@ -86,7 +86,7 @@ reply_text (R.Wide n) l bytes b = hex_of 4 n ++ newline
 reply_text (R.WideTwo x y) l bytes b = wide_two_text x y
 reply_text (R.Labelled x y) l bytes b = labelled_text x y
 reply_text (R.Entry e) l bytes b = entry_text e
-reply_text R.Payload l bytes b = payload_text b.present (mixer_of b).bank l bytes
+reply_text R.Payload l bytes b = payload_text (is_present b) (mixer_of b).bank l bytes
 reply_text R.Dump l bytes b = dump_text (mixer_of b)
 reply_text R.Policy l bytes b = hex_of 2 (policy_number (mixer_of b).stealing_policy) ++ newline
 reply_text R.Configuration l bytes b = config_text (mixer_of b).config

@@ -4,8 +4,9 @@ use mathlib.Core.List.{List}
 use Prim.Native.Nat.{ℕ}
 use lib.ListN.{length}
 use Rattle.hex_digits.proofs.Texts.{front}
-use Rattle.replay_session.specs.Sessions.{Answer, LaidAnswer, Answers}
-use Rattle.replay_session.specs.declared.SessionAnswered.{SessionAnswered}
+use Rattle.replay_leaves.specs.declared.Answered.{Answered}
+use Rattle.replay_session.specs.Runs.{Run}
+use Rattle.replay_session.specs.Sessions.{Answer, Does, Answers}
 
-pub done : {a : Answer} {before after : List ℕ} {r : SessionAnswered} → length before ≡ 262144 → LaidAnswer a before after r → Answers a before after r
-done h t = let f = front h t.laid in record { text = f.stands; len = f.count; more = t.more; session = t.session }
+pub done : {a : Answer} {before after : List ℕ} {s : Run} {r : Answered} → length before ≡ 262144 → Does a before after s r → Answers a before after s r
+done h t = let f = front h t.laid.laid in record { text = f.stands; len = f.count; more = t.laid.more; run = t.run }

@@ -1,3 +1,5 @@
--- What a line of a script makes of a run and what is answered, from the replay format.
---     Sessions    a run, opening, lending, calls; every line
+-- What a reader believes of a run over a script's lines.
+--     Runs        what a run keeps
+--     Sessions    what each line makes of it
+pub mod Runs
 pub mod Sessions

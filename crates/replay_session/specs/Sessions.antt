@@ -1,50 +1,44 @@
 -- A run over lines, "drives one engine through its public calls": document 01's box or one of the present rules. Assumes nothing.
-use Rattle.std.specs.Prelude.{ℕ, zero, suc, ◌+◌, ◌-◌, ◌/◌, ◌%◌, ◌≤◌, ◌≡◌, Bool, true, false, cond, ◌&&◌, ◌||◌, List, [], ◌∷◌, ◌++◌, leb, eqb, length, drop}
-use Rattle.error.specs.Told as T
-use Rattle.laws.specs.Made.{Made}
+use Rattle.std.specs.Prelude.{ℕ, zero, suc, ◌+◌, ◌-◌, ◌/◌, ◌%◌, ◌≡◌, Bool, true, false, cond, ◌&&◌, List, [], ◌∷◌, ◌++◌, leb, eqb, length, drop, Option, Some, None, Result, Ok, Err}
 use Rattle.config.specs.declared.AudioConfig.{AudioConfig}
-use Rattle.output.specs.declared.DutyMode.TheVariants as D
+use Rattle.error.specs.Numbers.{number_of}
+use Rattle.error.specs.declared.AudioError.{AudioError}
 use Rattle.mixer.specs.declared.VoiceStealingPolicy.{VoiceStealingPolicy}
 use Rattle.mixer.specs.declared.VoiceStealingPolicy.TheVariants as P
 use Rattle.hex_digits.specs.Hex.{all_digits, byte_at, wide_at, long_at, hex_of, newline, Wrote}
 use Rattle.replay_fields.specs.Read.{mode_of}
-use Rattle.replay_box.specs.Boxes.{ValidBox, no_box, opened}
+use Rattle.replay_box.specs.Boxes.{Gave, opened}
 use Rattle.replay_box.specs.declared.OpenBox.{OpenBox}
+use Rattle.replay_box.specs.declared.Rules.{Rules}
+use Rattle.replay_box.specs.declared.Rules.TheVariants.{First, Present}
 use Rattle.replay_calls.specs.Calls.{sized_as}
-use Rattle.replay_calls.specs.declared.Called.{Called}
 use Rattle.replay_calls.specs.declared.Reply.{Reply}
 use Rattle.replay_calls.specs.declared.Reply.TheVariants as R
-use Rattle.replay_fills.specs.Fills.{Fill, fill_for}
+use Rattle.replay_fills.specs.Fills.{Fill, buffer_of, fill_for}
+use Rattle.replay_fills.specs.declared.Buffer.{Buffer}
 use Rattle.replay_leaves.specs.Replies.{reply_of}
 use Rattle.replay_leaves.specs.Answers as A
+use Rattle.replay_leaves.specs.declared.Answered.{Answered}
 use Rattle.replay_replies.specs.Texts.{bad_text, reply_text}
-use Rattle.replay_waits.specs.Waits.{is_wait, called_any}
-use Rattle.replay_session.specs.declared.Session.{Session}
-use Rattle.replay_session.specs.declared.SessionAnswered.{SessionAnswered}
-use Rattle.error.specs.Told.{told}
-
--- at most 4,096 bytes are lent
-pub record ValidSession (s : Session) : Type 0 where
-  pub inside : ValidBox s.held
-  pub short : s.lent ≤ 4096
+use Rattle.replay_waits.specs.Waits.{asked_of, called_any}
+use Rattle.replay_waits.specs.declared.Asked.{Asked}
+use Rattle.replay_session.specs.Runs.{Run}
+use Rattle.replay_session.specs.declared.Asks.{Asks}
+use Rattle.replay_session.specs.declared.Asks.TheVariants as K
 
 -- what a line makes of a run: the text that answers it, whether the run goes on, and the run after it
 pub record Answer : Type 0 where
   pub text : List ℕ
   pub more : Bool
-  pub session : Session
-
--- before a box is open one of no voices stands in its place, which no record asks
-abbrev pub no_config : AudioConfig
-no_config = record { sample_rate_hz = 0; pwm_period = 2; duty_mode = D.Linear; master_gain_q8 = 0 }
+  pub run : Run
 
 -- "at first nothing is lent"
-unfoldable pub started : Session
-started = record { is_open = false; lent = 0; held = no_box no_config }
+abbrev pub started : Run
+started = record { lent = []; held = None }
 
 -- "prints FFFF and ends the run"
-abbrev pub bad_line : Session → Answer
-bad_line s = record { text = bad_text; more = false; session = s }
+abbrev pub bad_line : Run → Answer
+bad_line s = record { text = bad_text; more = false; run = s }
 
 -- 10 and 70, open: "N (1), rate (4), period (2), duty mode (1), master gain (1), policy (1) | number"
 abbrev pub policy_of : ℕ → VoiceStealingPolicy
@@ -65,15 +59,13 @@ opens l = sized_as 10 l && (leb (byte_at l 8) 2 && leb (byte_at l 10) 1)
 
 -- "A second 10 that is accepted replaces the engine; one that is refused leaves the old one. The lent bytes stay over both". So with either
 -- kind of box.
-abbrev pub opened_as : Session → T.Told (Unit {0}) → OpenBox → Answer
-opened_as s (T.value _) b = record { text = hex_of 2 0 ++ newline; more = true; session = record { is_open = true; lent = s.lent; held = b } }
-opened_as s (T.refused n) b = record { text = hex_of 2 n ++ newline; more = true; session = s }
+abbrev pub opened_as : Run → Result OpenBox AudioError → Answer
+opened_as s (Ok b) = record { text = hex_of 2 0 ++ newline; more = true; run = record { lent = s.lent; held = Some b } }
+opened_as s (Err e) = record { text = hex_of 2 (number_of e) ++ newline; more = true; run = s }
 
 -- "10 opens document 01's box, 70 .. one of the present rules, at any time"
-unfoldable pub open_answer : Bool → Session → List ℕ → Answer
-open_answer present s l =
-    let c = opened s.held present (byte_at l 1) (config_at l) (policy_of (byte_at l 10)) in
-    cond (opens l) (opened_as s (told c.outcome) c.held) (bad_line s)
+unfoldable pub open_answer : Rules → Run → List ℕ → Answer
+open_answer rules s l = cond (opens l) (opened_as s (opened rules (byte_at l 1) (config_at l) (policy_of (byte_at l 10)))) (bad_line s)
 
 -- n bytes of a line, from byte k on
 unfoldable pub bytes_at : List ℕ → ℕ → ℕ → List ℕ
@@ -84,10 +76,10 @@ bytes_at l k (suc n) = byte_at l k ∷ bytes_at l (k + 1) n
 abbrev pub lent_bytes : List ℕ → ℕ
 lent_bytes l = length l / 2 - 1
 
-unfoldable pub lend_answer : Session → List ℕ → Answer
+unfoldable pub lend_answer : Run → List ℕ → Answer
 lend_answer s l =
     cond (eqb (length l % 2) 0)
-    (record { text = []; more = true; session = record { is_open = s.is_open; lent = lent_bytes l; held = s.held } })
+    (record { text = []; more = true; run = record { lent = bytes_at l 1 (lent_bytes l); held = s.held } })
     (bad_line s)
 
 -- a bad line "ends the run"
@@ -108,85 +100,74 @@ goes_on (R.Voice i) = true
 goes_on R.Ranks = true
 goes_on R.Waiting = true
 
-abbrev pub called_answer : Session → List ℕ → List ℕ → Called → Answer
-called_answer s bytes l c =
-    record {
-      text = reply_text c.reply l bytes c.held;
-      more = goes_on c.reply;
-      session = record { is_open = s.is_open; lent = s.lent; held = c.held };
-    }
+abbrev pub called_answer : Run → List ℕ → Gave Reply → Answer
+called_answer s l c = record { text = reply_text c.gave l s.lent c.held; more = goes_on c.gave; run = record { lent = s.lent; held = Some c.held } }
 
 -- 11, 13 to 1D, 2B, 2C, 30, 62 to 69, 73 to 7A: "any record but 10 and the 4x ones before an engine is open" is bad
-unfoldable pub call_answer : Session → List ℕ → List ℕ → Answer
-call_answer s bytes l = cond s.is_open (called_answer s bytes l (called_any l bytes s.held)) (bad_line s)
+abbrev pub called_by : Asked → Run → List ℕ → Option OpenBox → Answer
+called_by asked s l None = bad_line s
+called_by asked s l (Some b) = called_answer s l (called_any asked l s.lent b)
+
+unfoldable pub call_answer : Asked → Run → List ℕ → Answer
+call_answer asked s l = called_by asked s l s.held
 
 -- 20 to 2A: "cells (2) | filled". "At most 2,048 cells in one record."
 abbrev pub fill_allowed : List ℕ → Bool
 fill_allowed l = sized_as 2 l && leb (wide_at l 1) 2048
 
-abbrev pub filled_answer : Session → Fill → Answer
-filled_answer s f =
-    record {
-      text = f.text;
-      more = true;
-      session = record { is_open = s.is_open; lent = s.lent; held = f.held };
-    }
+abbrev pub filled_answer : Run → Fill → Answer
+filled_answer s f = record { text = f.text; more = true; run = record { lent = s.lent; held = Some f.held } }
 
-unfoldable pub fill_answer : Session → List ℕ → List ℕ → Answer
-fill_answer s bytes l =
-    cond (s.is_open && fill_allowed l) (filled_answer s (fill_for (byte_at l 0) (wide_at l 1) bytes s.held)) (bad_line s)
+abbrev pub filled_by : Buffer → Run → List ℕ → Option OpenBox → Answer
+filled_by buffer s l None = bad_line s
+filled_by buffer s l (Some b) = filled_answer s (fill_for buffer (wide_at l 1) s.lent b)
+
+unfoldable pub fill_answer : Buffer → Run → List ℕ → Answer
+fill_answer buffer s l = cond (fill_allowed l) (filled_by buffer s l s.held) (bad_line s)
 
 -- the records that need no engine, 40 and up, and the codes of none
-unfoldable pub alone_answer : Session → List ℕ → Answer
-alone_answer s l = record { text = A.reply_text l; more = A.goes_on (reply_of l); session = s }
+unfoldable pub alone_answer : Run → List ℕ → Answer
+alone_answer s l = record { text = A.reply_text l; more = A.goes_on (reply_of l); run = s }
 
--- the codes 11, 13 to 1D, 2B, 2C, 30, 62 to 69, 73, 79 and 7A
-abbrev pub is_plain_call : ℕ → Bool
-is_plain_call code = eqb code 0x11 || (leb 0x13 code && leb code 0x1D) || eqb code 0x2B || eqb code 0x2C || eqb code 0x30 || (leb 0x62 code && leb code 0x69) || eqb code 0x73 || eqb code 0x79 || eqb code 0x7A
+-- a call of the open box, a buffer of it, or neither
+abbrev pub asks_box : Option Asked → Option Buffer → Asks
+asks_box (Some asked) buffer = K.Call asked
+asks_box None (Some buffer) = K.Fill buffer
+asks_box None None = K.Alone
 
--- and those of requests that wait, 74 to 78
-abbrev pub is_call : ℕ → Bool
-is_call code = is_wait code || is_plain_call code
+unfoldable pub asks_of : ℕ → Asks
+asks_of code =
+    cond (eqb code 0x10) (K.Open First)
+    (cond (eqb code 0x70) (K.Open Present)
+    (cond (eqb code 0x12) K.Lend (asks_box (asked_of code) (buffer_of code))))
 
--- the codes 20 to 2A
-abbrev pub is_fill : ℕ → Bool
-is_fill code = leb 0x20 code && leb code 0x2A
-
-abbrev pub answer_for : ℕ → Session → List ℕ → List ℕ → Answer
-answer_for code s bytes l =
-    cond (eqb code 0x10) (open_answer false s l)
-    (cond (eqb code 0x70) (open_answer true s l)
-    (cond (eqb code 0x12) (lend_answer s l)
-    (cond (is_call code) (call_answer s bytes l)
-    (cond (is_fill code) (fill_answer s bytes l)
-    (alone_answer s l)))))
+abbrev pub answer_for : Asks → Run → List ℕ → Answer
+answer_for (K.Open rules) s l = open_answer rules s l
+answer_for K.Lend s l = lend_answer s l
+answer_for (K.Call asked) s l = call_answer asked s l
+answer_for (K.Fill buffer) s l = fill_answer buffer s l
+answer_for K.Alone s l = alone_answer s l
 
 -- "No good line is longer than 8,194 digits; a longer one is bad"
 abbrev pub is_line : List ℕ → Bool
 is_line l = leb (length l) 8194 && all_digits l
 
-unfoldable pub session_answer : Session → List ℕ → List ℕ → Answer
-session_answer s bytes l = cond (is_line l) (answer_for (byte_at l 0) s bytes l) (bad_line s)
+unfoldable pub session_answer : Run → List ℕ → Answer
+session_answer s l = cond (is_line l) (answer_for (asks_of (byte_at l 0)) s l) (bad_line s)
 
--- where the bytes lent are kept: a good 12 puts its own in front, and nothing else touches them
-abbrev pub lent_over : List ℕ → List ℕ → List ℕ
-lent_over cells l = cond (eqb (length l % 2) 0) (bytes_at l 1 (lent_bytes l) ++ drop (lent_bytes l) cells) cells
+-- a text that was laid over a buffer from its front on, and whether the run goes on
+pub record Laid (text : List ℕ) (goes : Bool) (before after : List ℕ) (r : Answered) : Type 0 where
+  pub laid : Wrote before 0 text after r.len
+  pub more : r.more ≡ goes
 
-abbrev pub cells_for : ℕ → List ℕ → List ℕ → List ℕ
-cells_for code cells l = cond (eqb code 0x12) (lent_over cells l) cells
-
-unfoldable pub cells_after : List ℕ → List ℕ → List ℕ
-cells_after cells l = cond (is_line l) (cells_for (byte_at l 0) cells l) cells
-
--- an answer that was laid over a buffer from its front on
-pub record LaidAnswer (a : Answer) (before after : List ℕ) (r : SessionAnswered) : Type 0 where
-  pub laid : Wrote before 0 a.text after r.len
-  pub more : r.more ≡ a.more
-  pub session : Made ValidSession a.session r.session
+-- an answer that was laid so, and the run after it
+pub record Does (a : Answer) (before after : List ℕ) (s : Run) (r : Answered) : Type 0 where
+  pub laid : Laid a.text a.more before after r
+  pub run : s ≡ a.run
 
 -- the text stands before the rest of what the buffer held
-pub record Answers (a : Answer) (before after : List ℕ) (r : SessionAnswered) : Type 0 where
+pub record Answers (a : Answer) (before after : List ℕ) (s : Run) (r : Answered) : Type 0 where
   pub text : after ≡ a.text ++ drop (length a.text) before
   pub len : r.len ≡ length a.text
   pub more : r.more ≡ a.more
-  pub session : Made ValidSession a.session r.session
+  pub run : s ≡ a.run

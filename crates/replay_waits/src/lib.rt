@@ -2,50 +2,47 @@
 #![tactic(auto)]
 
 ghost use Rattle.std.specs.Prelude.{◌≡◌};
-ghost use Rattle.laws.specs.Made.{Made};
-ghost use Rattle.replay_box.specs.Boxes.{ValidBox};
-ghost use Rattle.replay_calls.specs.Calls.{ValidCalled};
-ghost use Rattle.replay_waits.specs.Waits.{allowed_wait, leave_call, withdraw_call, next_reply, next_call, kept_reply, kept_call, wait_for, is_wait, waited, called_any};
+ghost use Rattle.replay_box.specs.declared.OpenBox.TheVariants as B;
+ghost use Rattle.replay_waits.specs.Waits.{wait_of, allowed_wait, leave_call, withdraw_call, next_reply, kept_reply, wait_for, waited, asked_of, called_any};
 
 use error::AudioError;
 use hex_digits::{byte_at, wide_at};
 use replay_box::OpenBox;
-use replay_calls::{Called, Reply, outcome_reply};
+use replay_calls::{Record, Reply, outcome_reply};
 use replay_fields::spec_at;
+use sounder::Sounder;
 use waiting::Waiting;
 
-fn is_allowed(code: u8, l: &[u8]) -> bool
-    ensures { result ≡ allowed_wait code l.now }
-{
-    let n = l.len();
-    match code {
-        0x74 => n == 28 && byte_at(l, 3) == 0,
-        0x75 => n == 6,
-        _ => n == 2,
-    }
+// The records 74 to 78.
+#[derive(Clone, Copy, Debug, PartialEq, Eq)]
+pub enum Wait {
+    Leave,
+    Withdraw,
+    Labels,
+    Next,
+    Kept,
 }
 
-fn leave_call(l: &[u8], e: OpenBox) -> Called
-    requires { ValidBox e }
-    ensures { Made ValidCalled (leave_call l.now e) result }
+// A record that an open box is asked.
+#[derive(Clone, Copy, Debug, PartialEq, Eq)]
+pub enum Asked {
+    Wait(Wait),
+    Other(Record),
+}
+
+#[tactic(auto, unfolding(crate::specs::Waits::leave_call))]
+fn leave_call(l: &[u8], s: &mut Sounder) -> Reply
+    ensures { record { held = B.Sounder s.new; gave = result } ≡ leave_call l.now s.old }
 {
     let adsr = spec_at(l, 6);
-    let c = e.leave(wide_at(l, 1), wide_at(l, 4), adsr, byte_at(l, 13));
-    Called {
-        reply: outcome_reply(c.outcome),
-        held: c.held,
-    }
+    outcome_reply(s.leave(wide_at(l, 1), wide_at(l, 4), adsr, byte_at(l, 13)))
 }
 
-fn withdraw_call(l: &[u8], e: OpenBox) -> Called
-    requires { ValidBox e }
-    ensures { Made ValidCalled (withdraw_call l.now e) result }
+#[tactic(auto, unfolding(crate::specs::Waits::withdraw_call))]
+fn withdraw_call(l: &[u8], s: &mut Sounder) -> Reply
+    ensures { record { held = B.Sounder s.new; gave = result } ≡ withdraw_call l.now s.old }
 {
-    let c = e.withdraw(wide_at(l, 1));
-    Called {
-        reply: outcome_reply(c.outcome),
-        held: c.held,
-    }
+    outcome_reply(s.withdraw(wide_at(l, 1)))
 }
 
 fn next_reply(n: Option<Waiting>) -> Reply
@@ -53,18 +50,7 @@ fn next_reply(n: Option<Waiting>) -> Reply
 {
     match n {
         None => Reply::Number(0),
-        Some(w) => Reply::Labelled(1, w.label as u64),
-    }
-}
-
-fn next_call(e: OpenBox) -> Called
-    requires { ValidBox e }
-    ensures { Made ValidCalled (next_call e) result }
-{
-    let next = e.next_in_line();
-    Called {
-        reply: next_reply(next),
-        held: e,
+        Some(w) => Reply::Labelled(1, u64::from(w.label)),
     }
 }
 
@@ -73,67 +59,85 @@ fn kept_reply(k: Option<(AudioError, u16)>) -> Reply
 {
     match k {
         None => Reply::Number(0),
-        Some((error, label)) => Reply::Labelled(u8::from(error) as u64, label as u64),
+        Some((error, label)) => Reply::Labelled(u64::from(u8::from(error)), u64::from(label)),
     }
 }
 
-fn kept_call(e: OpenBox) -> Called
-    requires { ValidBox e }
-    ensures { Made ValidCalled (kept_call e) result }
-{
-    let kept = e.kept_refusal();
-    Called {
-        reply: kept_reply(kept),
-        held: e,
-    }
-}
-
-fn wait_for(code: u8, l: &[u8], e: OpenBox) -> Called
-    requires { ValidBox e }
-    ensures { Made ValidCalled (wait_for code l.now e) result }
-{
-    match code {
-        0x74 => leave_call(l, e),
-        0x75 => withdraw_call(l, e),
-        0x76 => Called {
-            reply: Reply::Waiting,
-            held: e,
-        },
-        0x77 => next_call(e),
-        _ => kept_call(e),
-    }
-}
-
-pub fn is_wait(code: u8) -> bool
-    ensures { result ≡ is_wait code }
-{
-    0x74 <= code && code <= 0x78
-}
-
-fn wait_call(code: u8, l: &[u8], e: OpenBox) -> Called
-    requires { ValidBox e }
-    ensures { Made ValidCalled (waited code l.now e) result }
-{
-    if e.is_present() {
-        if is_allowed(code, l) {
-            return wait_for(code, l, e);
+impl Wait {
+    #[tactic(auto, unfolding(crate::specs::Waits::wait_of))]
+    fn of(code: u8) -> Option<Wait>
+        ensures { result ≡ wait_of code }
+    {
+        match code {
+            0x74 => Some(Wait::Leave),
+            0x75 => Some(Wait::Withdraw),
+            0x76 => Some(Wait::Labels),
+            0x77 => Some(Wait::Next),
+            0x78 => Some(Wait::Kept),
+            _ => None,
         }
     }
-    Called {
-        reply: Reply::Bad,
-        held: e,
+
+    #[tactic(auto, unfolding(crate::specs::Waits::allowed_wait))]
+    fn is_allowed(self, l: &[u8]) -> bool
+        ensures { result ≡ allowed_wait self l.now }
+    {
+        let n = l.len();
+        match self {
+            Wait::Leave => n == 28 && byte_at(l, 3) == 0,
+            Wait::Withdraw => n == 6,
+            Wait::Labels | Wait::Next | Wait::Kept => n == 2,
+        }
+    }
+
+    #[tactic(auto, unfolding(crate::specs::Waits::wait_for))]
+    fn call_for(self, l: &[u8], s: &mut Sounder) -> Reply
+        ensures { record { held = B.Sounder s.new; gave = result } ≡ wait_for self l.now s.old }
+    {
+        match self {
+            Wait::Leave => leave_call(l, s),
+            Wait::Withdraw => withdraw_call(l, s),
+            Wait::Labels => Reply::Waiting,
+            Wait::Next => next_reply(s.next_in_line()),
+            Wait::Kept => kept_reply(s.kept_refusal()),
+        }
+    }
+
+    #[tactic(auto, unfolding(crate::specs::Waits::waited))]
+    fn call(self, l: &[u8], e: &mut OpenBox) -> Reply
+        ensures { record { held = e.new; gave = result } ≡ waited self l.now e.old }
+    {
+        let OpenBox::Sounder(s) = e else {
+            return Reply::Bad;
+        };
+        if self.is_allowed(l) {
+            self.call_for(l, s)
+        } else {
+            Reply::Bad
+        }
     }
 }
 
-// A line of a record of an open box, over the bytes lent.
-pub fn call(l: &[u8], bytes: &[u8], e: OpenBox) -> Called
-    requires { ValidBox e }
-    ensures { Made ValidCalled (called_any l.now bytes.now e) result }
-{
-    let code = byte_at(l, 0);
-    if is_wait(code) {
-        wait_call(code, l, e)
-    } else {
-        replay_calls::call(l, bytes, e)
+impl Asked {
+    #[tactic(auto, unfolding(crate::specs::Waits::asked_of))]
+    pub fn of(code: u8) -> Option<Asked>
+        ensures { result ≡ asked_of code }
+    {
+        if let Some(wait) = Wait::of(code) {
+            return Some(Asked::Wait(wait));
+        }
+        let record = Record::of(code)?;
+        Some(Asked::Other(record))
+    }
+
+    // A line of this record, over the bytes lent.
+    #[tactic(auto, unfolding(crate::specs::Waits::called_any))]
+    pub fn call(self, l: &[u8], bytes: &[u8], e: &mut OpenBox) -> Reply
+        ensures { record { held = e.new; gave = result } ≡ called_any self l.now bytes.now e.old }
+    {
+        match self {
+            Asked::Wait(wait) => wait.call(l, e),
+            Asked::Other(record) => record.call(l, bytes, e),
+        }
     }
 }

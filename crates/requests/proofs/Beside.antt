@@ -4,11 +4,11 @@ use native.Mathlib.Omega.{arith}
 use native.Mathlib.Numerals.{add-one}
 use mathlib.Core.Path.{◌≡◌, refl, ap, sym, ◌∙◌}
 use mathlib.Core.Bool.{Bool, true, false}
-use mathlib.Core.List.{List, [], ◌∷◌, map}
+use mathlib.Core.List.{List, [], ◌∷◌, ◌++◌, map, append_assoc, append-nil}
 use borrow.Author.Tests.{eqb-true, eqb-false}
 use lib.Dec.{eqb}
-use lib.ListN.{length, get_or, set, take, length-set}
-use lib.Seq.{ext_get_or, get_or-set_same, get_or-set_other, take_all, take-suc, take-suc-set}
+use lib.ListN.{length, get_or, set, take, drop, length-set, drop_of_length-le}
+use lib.Seq.{ext_get_or, get_or-set_same, get_or-set_other, take_all, take-suc, set_at, drop-cons, length-take-le, get_or-append_seam}
 use Rattle.allocate.specs.Keys.{age_of, keys_of, rank_in, sounding_after, rekeyed}
 use Rattle.allocate.proofs.Rekeyed.{keys_length, rank-back, sounding-rank}
 use Rattle.error.specs.Numbers.{number_of}
@@ -53,22 +53,30 @@ ranked-at (r ∷ keys) [] i d h l = absurd (omega arith)
 ranked-at (r ∷ keys) (k ∷ ks) zero d h l = refl
 ranked-at (r ∷ keys) (k ∷ ks) (suc i) d h l = ranked-at keys ks i d (omega arith) (omega arith)
 
--- one more, and all
-module _ (keys : List ℕ) (ks out : List Mark) (i : ℕ) (e : length keys ≡ length ks) where
-  pub ranked-step : (d : Mark) (r : ℕ) → i < length ks → i < length out → take i out ≡ take i (ranked_by keys ks) → r ≡ rank_in (get_or keys i 0)
-      → take (i + 1) (set out i (ranked r (get_or ks i d))) ≡ take (i + 1) (ranked_by keys ks)
-  ranked-step d r h l f g =
+-- one more, and all: the marks passed have the ranks, and those ahead are as they were
+module _ (keys : List ℕ) (ks items : List Mark) (i : ℕ) (e : length keys ≡ length ks) (f : items ≡ take i (ranked_by keys ks) ++ drop i ks) where
+  pub ranked-step : (d : Mark) (r : ℕ) → i < length ks → r ≡ rank_in (get_or keys i 0)
+      → set items i (ranked r (get_or items i d)) ≡ take (i + 1) (ranked_by keys ks) ++ drop (i + 1) ks
+  ranked-step d r h g =
+      let front = take i (ranked_by keys ks) in
+      let here = get_or ks i d in
+      let n : length front ≡ i = length-take-le i (ranked_by keys ks) (omega (arith, ranked-length keys ks e)) in
+      let seam : items ≡ front ++ (here ∷ drop (suc i) ks) = f ∙ ap (λ (r : List Mark). front ++ r) (drop-cons ks i d h) in
+      let same : get_or items i d ≡ here = rw (ap (λ (l : List Mark). get_or l i d) seam) (rw n at (get_or-append_seam front here (drop (suc i) ks) d)) in
       rw (
+        same,
+        seam,
+        set_at front here (drop (suc i) ks) (ranked r here) i n,
         add-one,
-        take-suc-set out i (ranked r (get_or ks i d)) l,
-        f,
         take-suc (ranked_by keys ks) i d (omega (arith, ranked-length keys ks e)),
         ranked-at keys ks i d (omega arith) h,
+        append_assoc,
         g,
       )
 
-  pub ranked-end : length ks ≤ i → length out ≤ i → take i out ≡ take i (ranked_by keys ks) → out ≡ ranked_by keys ks
-  ranked-end h l f = sym (take_all i out l) ∙ f ∙ take_all i (ranked_by keys ks) (omega (arith, ranked-length keys ks e))
+  pub ranked-end : length ks ≤ i → items ≡ ranked_by keys ks
+  ranked-end h =
+      f ∙ rw (take_all i (ranked_by keys ks) (omega (arith, ranked-length keys ks e)), drop_of_length-le ks h) (append-nil (ranked_by keys ks))
 
 -- ---- marks that have these rules
 -- beside a voice that was started; its rank stands in its key

@@ -1,7 +1,7 @@
 -- A list of requests in a slice of bytes: ten bytes each, as record 13 of the replay format has them without its code. Assumes nothing.
 use Rattle.std.specs.Prelude.{ℕ, zero, suc, ◌+◌, ◌*◌, ◌/◌, ◌≡◌, List, [], ◌∷◌, length, get_or}
 use Rattle.std.proofs.lemmas.List.Edits.{sets}
-use Rattle.error.specs.Told.{told, Told, value, refused}
+use Rattle.error.specs.Told.{Told, value, refused}
 use Rattle.start.specs.declared.Request.{Request}
 use Rattle.requests.specs.Players.{Player, played_all, Demand3, Ranks}
 

@@ -15,7 +15,7 @@ use marks::{Mark, Marks, Present};
 use play::places::place;
 use start::Request;
 
-// A state of the present rules, and the voice that the request got.
+// A state of the present rules, and the voice that the request got. Its contracts name the state, which a generic pair would not.
 #[derive(Clone, Copy)]
 pub struct PresentPlayed {
     pub outcome: Result<usize, AudioError>,
@@ -49,13 +49,15 @@ pub fn play_request(p: Present, bytes: &[u8], request: Request) -> PresentPlayed
     }
 }
 
+// The bank's writer reads such a number too; neither crate stands on the other.
 fn big16_at(l: &[u8], k: usize) -> u16
     requires { k + 2 ≤ length l.now }
     ensures { result ≡ big16_at l.now k }
 {
-    256 * (l[k] as u16) + (l[k + 1] as u16)
+    u16::from_be_bytes([l[k], l[k + 1]])
 }
 
+#[tactic(auto, unfolding(crate::specs::Slices::request_at))]
 fn request_at(l: &[u8], k: usize) -> Request
     requires { k + 10 ≤ length l.now }
     ensures { result ≡ request_at l.now k }
@@ -87,17 +89,14 @@ fn ranked(rules: [Mark; 16], keys: [u16; 16]) -> [Mark; 16]
     ensures { result ≡ ranked_by keys rules }
 {
     let mut out = rules;
-    for i in 0..16 {
-        let k = rules[i];
-        out[i] = Mark {
-            rank: rank(keys[i]),
-            ..k
-        };
+    for (i, k) in out.iter_mut().enumerate() {
+        k.rank = rank(keys[i]);
     }
     out
 }
 
-// What stands beside the voices after a list; document 01's box has no ranks.
+// What stands beside the voices after a list; document 01's box has no ranks. An enum in the place of `present` would say no more: the definitions of
+// both boxes take a Bool.
 fn marks_after(marks: Marks, rules: [Mark; 16], keys: [u16; 16], present: bool) -> Marks
     ensures { result ≡ marks_by present marks keys rules }
 {
@@ -130,6 +129,7 @@ pub fn play_each(
     let mut rules = marks.voices;
     let mut keys = keys_of(voices, rules, present);
     let mut sounding = marks::below(rules, 16);
+    // By place and not by `chunks_exact`: the place is the outcome's cell too, and what is read of a chunk is said of the whole slice.
     for i in 0..count {
         let request = request_at(requests, 10 * i);
         let bank = mixer.bank;

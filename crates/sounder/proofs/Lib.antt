@@ -5,7 +5,6 @@
 --     Requests  demand 3; an accepted request changes at most the rank of a voice that it does not get: ranks-alone
 --     Steps     each of document 01's calls does to a fade what document 01's does: fade-takes, fade-on-takes, fade-lasts; what a buffer call and a list of requests are: frame-run, play-run
 --     Sounding  after the end of a fade of the second call the sound goes on: sounds-on
---     Boxes     a buffer of one frame is that frame
 --     Heard     which voices the calls that start one leave audible
 pub mod Valid
 pub mod Settled
@@ -13,5 +12,3 @@ pub mod Requests
 pub mod Steps
 pub mod Sounding
 pub mod Heard
-mod Ranks
-mod Boxes

@@ -15,27 +15,26 @@ use Rattle.requests.proofs.Presents as P
 use Rattle.start.specs.declared.Request.{Request}
 use Rattle.sounder.specs.Calls.{played}
 use Rattle.sounder.specs.Requests.{player}
-use Rattle.sounder.specs.Sounders.{ValidSounder, boxed, with_present}
-use Rattle.sounder.specs.declared.Sounder.{Sounder}
+use Rattle.sounder.specs.Sounders.{with_present}
 
 -- so `requests` demand-3 and sound-accepted hold of it
 pub lawful : Lawful player
 lawful =
     let l = P.lawful true in
     record {
-      choice = λ s priority. l.choice s.state.present priority;
-      allows = λ s priority k. l.allows s.state.present priority k;
-      hands = λ s bytes r. l.hands s.state.present bytes r;
-      leaves = λ s bytes r. l.leaves s.state.present bytes r;
+      choice = λ s priority. l.choice s.present priority;
+      allows = λ s priority k. l.allows s.present priority k;
+      hands = λ s bytes r. l.hands s.present bytes r;
+      leaves = λ s bytes r. l.leaves s.present bytes r;
     }
 
 -- what is beside the state stays
-pub follows : (s : Lined) → Follows (player_by true) player (λ p. boxed (with_present s p))
+pub follows : (s : Lined) → Follows (player_by true) player (with_present s)
 follows s = record { mixer = λ p. refl; told = λ p bytes r. refl; next = λ p bytes r. refl }
 
-pub boxed-valid : (s : Lined) → E.Valid s → (p : Present) → Valid p → ValidSounder (boxed (with_present s p))
-boxed-valid s h p g = record { inside = record { present = g; line = h.line } }
+pub boxed-valid : (s : Lined) → E.Valid s → (p : Present) → Valid p → E.Valid (with_present s p)
+boxed-valid s h p g = record { present = g; line = h.line }
 
 -- "An accepted request may change the rank, and nothing else, of a voice that it doesn't get"
-pub ranks-alone : (s : Sounder) (bytes : List ℕ) (r : Request) (i : ℕ) → ValidSounder s → told (played s.state bytes r).outcome ≡ value i → RanksAlone s.state.present bytes r i
-ranks-alone s bytes r i h e = P.ranks-alone s.state.present bytes r i h.inside.present e
+pub ranks-alone : (s : Lined) (bytes : List ℕ) (r : Request) (i : ℕ) → E.Valid s → told (played s bytes r).gave ≡ value i → RanksAlone s.present bytes r i
+ranks-alone s bytes r i h e = P.ranks-alone s.present bytes r i h.present e

@@ -29,8 +29,8 @@ use Rattle.steps.specs.Steps.{turned_down}
 use Rattle.voice.specs.Sources.{active_source}
 use Rattle.voice.specs.Voices.{audible, silent_voice, stopped_voice}
 use Rattle.voice.specs.declared.Voice.{Voice}
-use Rattle.sounder.specs.Calls.{stopped, bank_marks, banked, faded, faded_on}
-use Rattle.sounder.specs.Sounders.{with_present, changed_box}
+use Rattle.sounder.specs.Calls.{changed, stopped, bank_marks, banked, faded, faded_on}
+use Rattle.sounder.specs.Sounders.{with_present}
 
 abbrev Silent : Voice → Type 0
 Silent v = audible v ≡ false
@@ -91,29 +91,29 @@ bank-settled p (value b) h =
     sym (silent-settled (M.holding_bank p.mixer b) p.marks refl h.full (all_replicate Silent 16 v (silent b.sample_rate_hz)))
 
 pub banked-settled : (s : Lined) (rate count len : ℕ) → Valid s.present
-    → (banked s rate count len).sounder.state.present ≡ settled (beside (M.banked s.present.mixer rate count len).mixer s.present.marks)
+    → (banked s rate count len).lined.present ≡ settled (beside (M.banked s.present.mixer rate count len).mixer s.present.marks)
 unfolding M.banked
 banked-settled s rate count len h = bank-settled s.present (bank_of rate count len) h
 
 -- "A refusal changes nothing": 5 to 9, which come before voice 0 is released (`play` refused-before)
 pub faded-unchanged : (s : Lined) (bytes : List ℕ) (id ms : ℕ) (adsr : AdsrSpec) (n : ℕ) → Valid s.present
-    → F.faded_under true s.present.mixer bytes id ms adsr ≡ M.unchanged s.present.mixer n → faded s bytes id ms adsr ≡ changed_box (Err (refusal n)) s
-faded-unchanged s bytes id ms adsr n h e = rw e (ap (λ (p : Present). changed_box (Err (refusal n)) (with_present s p)) h.quiet)
+    → F.faded_under true s.present.mixer bytes id ms adsr ≡ M.unchanged s.present.mixer n → faded s bytes id ms adsr ≡ changed (Err (refusal n)) s
+faded-unchanged s bytes id ms adsr n h e = rw e (ap (λ (p : Present). changed (Err (refusal n)) (with_present s p)) h.quiet)
 
 -- 10, 15 and 16, which come at its entry start (`play` refused-there): voice 0 is released, and nothing stands beside it where it is inaudible then
 pub faded-released : (s : Lined) (bytes : List ℕ) (id ms : ℕ) (adsr : AdsrSpec) (n : ℕ)
     → F.faded_under true s.present.mixer bytes id ms adsr ≡ M.unchanged (F.first_released s.present.mixer) n
-    → faded s bytes id ms adsr ≡ changed_box (Err (refusal n)) (with_present s (settled (beside (F.first_released s.present.mixer) s.present.marks)))
+    → faded s bytes id ms adsr ≡ changed (Err (refusal n)) (with_present s (settled (beside (F.first_released s.present.mixer) s.present.marks)))
 faded-released s bytes id ms adsr n e = rw e
 
 -- the second fade call: "being turned down changes nothing at all", whatever the number
-pub on-refused : (s : Lined) (bytes : List ℕ) (id ms : ℕ) (adsr : AdsrSpec) (n : ℕ) → Valid s.present → told (faded_on s bytes id ms adsr).outcome ≡ refused n
-    → (faded_on s bytes id ms adsr).sounder.state ≡ s
+pub on-refused : (s : Lined) (bytes : List ℕ) (id ms : ℕ) (adsr : AdsrSpec) (n : ℕ) → Valid s.present → told (faded_on s bytes id ms adsr).gave ≡ refused n
+    → (faded_on s bytes id ms adsr).lined ≡ s
 on-refused s bytes id ms adsr n h e = by_call (on-or-not s.present.mixer bytes id ms adsr)
   where
     m : Mixer
     m = s.present.mixer
 
-    by_call : OnOrNot m (F.faded_under true m bytes id ms adsr) (F.faded_on m bytes id ms adsr) → (faded_on s bytes id ms adsr).sounder.state ≡ s
+    by_call : OnOrNot m (F.faded_under true m bytes id ms adsr) (F.faded_on m bytes id ms adsr) → (faded_on s bytes id ms adsr).lined ≡ s
     by_call (turned k f o) = rw f (ap (with_present s) h.quiet)
     by_call (began d f) = never (ap turned_down (sym (ap told d) ∙ e))

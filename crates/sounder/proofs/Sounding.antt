@@ -12,6 +12,7 @@ use lib.ListN.{length, get_or, get_elem?, set, length-set}
 use lib.Seq.{get_or-set_other}
 use Rattle.config.specs.Config.{rounded_up}
 use Rattle.entering.specs.Entering.{entered_in}
+use Rattle.entering.specs.Lined as E
 use Rattle.entering.specs.Fates.{Fate, Tried, Tries, over, next}
 use Rattle.entering.specs.declared.Lined.{Lined}
 use Rattle.entering.proofs.Fates.{not-given, enters-in}
@@ -41,10 +42,8 @@ use Rattle.voice.specs.Rests as R
 use Rattle.voice.specs.Voices.{silent_voice, audible}
 use Rattle.voice.specs.declared.Voice.{Voice}
 use Rattle.waiting.specs.declared.Waiting.{Waiting}
-use Rattle.sounder.specs.Sounders.{ValidSounder}
 use Rattle.sounder.specs.Sounding.{frames_after, at_start, second, second_rule, Undisturbed, SoundsOn}
 use Rattle.sounder.specs.Steps.{frame_step, Lent, framed}
-use Rattle.sounder.specs.declared.Sounder.{Sounder}
 
 -- voice 0 runs on, in a state of no more voices than there are places
 record Going (o v : Voice) (w : Bool) (p : Present) : Type 0 where
@@ -122,16 +121,16 @@ record Gone (o v : Voice) (w : Bool) (n : ℕ) (s : Lined) : Type 0 where
   going : Going o v w s.present
   free : Free s n v
 
-frames-going : {o : Voice} {w : Bool} (fs : List Lent) {v : Voice} (n : ℕ) (s : Sounder) → Going o v w s.state.present → Free s.state (length fs + n) v
-    → Gone o (run_alone (length fs) v) w n (frames_after fs s).state
+frames-going : {o : Voice} {w : Bool} (fs : List Lent) {v : Voice} (n : ℕ) (s : Lined) → Going o v w s.present → Free s (length fs + n) v
+    → Gone o (run_alone (length fs) v) w n (frames_after fs s)
 unfolding after_all after
 frames-going [] {v = v} n s g h = let e : length {A = Lent} [] + n ≡ n = omega arith in record { going = g; free = rw e at h }
 frames-going (f ∷ fs) {v = v} n s g h =
     let e : length (f ∷ fs) + n ≡ suc (length fs + n) = omega arith in
-    let l : Free s.state (suc (length fs + n)) v = rw e at h in
+    let l : Free s (suc (length fs + n)) v = rw e at h in
     frames-going fs n (framed f s)
-    (frame-going f.kind f.bytes s.state (still-going _ (enter-going f.bytes s.state (free-now s.state (length fs + n) v l) g)))
-    (free_on s.state (length fs + n) v f.kind f.bytes l)
+    (frame-going f.kind f.bytes s (still-going _ (enter-going f.bytes s (free-now s (length fs + n) v l) g)))
+    (free_on s (length fs + n) v f.kind f.bytes l)
 
 -- what can be heard after n frames, can before
 heard-before : (n k : ℕ) (v : Voice) → k ≤ n → audible (run_alone n v) ≡ true → audible (run_alone k v) ≡ true
@@ -142,9 +141,9 @@ heard-before (suc n) zero v l h = framed-heard v (heard-before n 0 (R.framed tru
 heard-before (suc n) (suc k) v l h = heard-before n k (R.framed true v) (omega arith) h
 
 -- no request takes the place of voice 1's sound within so many frames
-undisturbed : (f : Lent) (s : Sounder) (n m : ℕ) → Undisturbed f s m → n ≡ m → Free (framed f s).state n (R.framed true (second f s))
+undisturbed : (f : Lent) (s : Lined) (n m : ℕ) → Undisturbed f s m → n ≡ m → Free (framed f s) n (R.framed true (second f s))
 unfolding after
-undisturbed f s n m (inl e) q = inl (line_stays f.kind f.bytes s.state e)
+undisturbed f s n m (inl e) q = inl (line_stays f.kind f.bytes s e)
 undisturbed f s n m (inr h) q = inr (λ k l. heard-before m (suc k) (second f s) (omega (arith, q)) h)
 
 -- ---- who goes in changes no size
@@ -194,22 +193,22 @@ played-on p bytes r = go (told (played_under true p bytes r).outcome)
     go (refused n) = refl
 
 -- in any state that frames can be made of
-pub ready-sounds-on : (f : Lent) (s : Sounder) → Ready s.state.present → Moves s.state.present.mixer → frames_left s.state.present.mixer ≡ 1
-    → s.state.present.marks.sounds_on ≡ true → SoundsOn f s
+pub ready-sounds-on : (f : Lent) (s : Lined) → Ready s.present → Moves s.present.mixer → frames_left s.present.mixer ≡ 1
+    → s.present.marks.sounds_on ≡ true → SoundsOn f s
 unfolding after_all after
 ready-sounds-on f s h k l on =
     let p = at_start f.bytes s in
-    let fade = enter-fade f.bytes s.state in
-    let size = tries-sized f.bytes (enters-in f.bytes s.state (omega (arith, h.sized.few, h.sized.full))).tries (h.sized, h.marked) in
+    let fade = enter-fade f.bytes s in
+    let size = tries-sized f.bytes (enters-in f.bytes s (omega (arith, h.sized.few, h.sized.full))).tries (h.sized, h.marked) in
     let e = one_left p.mixer (λ a. rw fade.step (k (sym fade.active ∙ a))) (same_left fade ∙ l) in
-    let begun = enter-keeps f.bytes (λ q. q.marks.sounds_on ≡ true) (λ q r free i. played-on q f.bytes r ∙ i) s.state on in
+    let begun = enter-keeps f.bytes (λ q. q.marks.sounds_on ≡ true) (λ q r free i. played-on q f.bytes r ∙ i) s on in
     let r = ends-runs p size.0 size.1 e.0 e.1 begun in
     let going : Going (voice_at p.mixer 0) (second f s) (second_rule f s) (advanced_state p) = record { runs = r; few = (sized-advanced p.marks.sounds_on size.0).few } in
-    let one = frame-going f.kind f.bytes s.state going in
+    let one = frame-going f.kind f.bytes s going in
     let later : (fs : List Lent) (bytes : List ℕ) → Undisturbed f s (suc (length fs))
     → Runs (voice_at p.mixer 0) (run_alone (length fs) (R.framed true (second f s))) (second_rule f s) (advanced_state (at_start bytes (frames_after fs (framed f s))))
     = λ fs bytes u.
-    let e = (frames_after fs (framed f s)).state in
+    let e = frames_after fs (framed f s) in
     let v = run_alone (length fs) (R.framed true (second f s)) in
     let g = frames-going fs 1 (framed f s) one (undisturbed f s (length fs + 1) (suc (length fs)) u (omega arith)) in
     still-runs _ (enter-going bytes e (free-now e 0 v g.free) g.going).runs in
@@ -222,5 +221,5 @@ ready-sounds-on f s h k l on =
       heard = λ fs u. runs-heard _ (frames-going fs 0 (framed f s) one (undisturbed f s (length fs + 0) (length fs) u (omega arith))).going.runs;
     }
 
-pub sounds-on : (f : Lent) (s : Sounder) → ValidSounder s → frames_left s.state.present.mixer ≡ 1 → s.state.present.marks.sounds_on ≡ true → SoundsOn f s
-sounds-on f s h l on = ready-sounds-on f s (valid-ready s.state.present h.inside.present) (valid-moves h.inside.present.inside) l on
+pub sounds-on : (f : Lent) (s : Lined) → E.Valid s → frames_left s.present.mixer ≡ 1 → s.present.marks.sounds_on ≡ true → SoundsOn f s
+sounds-on f s h l on = ready-sounds-on f s (valid-ready s.present h.present) (valid-moves h.present.inside) l on

@@ -1,5 +1,5 @@
 -- Each definition keeps a state valid; so what a step of the parts promises, the call promises of the box. Assumes nothing.
-use Rattle.std.specs.Prelude.{Err, None, Ok, Result, Some}
+use Rattle.std.specs.Prelude.{Err, None, Ok, Some}
 use Prim.Native.Nat.{ℕ}
 use mathlib.Core.Path.{◌≡◌, refl, ap, ◌∙◌}
 use native.Mathlib.Omega.{arith}
@@ -27,43 +27,37 @@ use Rattle.marks.proofs.Starts.{begun-order}
 use Rattle.mixer.specs.Mixers as M
 use Rattle.mixer.specs.declared.Changed.{Changed}
 use Rattle.mixer.specs.declared.Mixer.{Mixer}
-use Rattle.requests.specs.Presents.{ValidPresentPlayed}
-use Rattle.requests.specs.declared.PresentPlayed.{PresentPlayed}
 use Rattle.voice.specs.Voices.{audible, with_pan, silent_voice}
 use Rattle.voice.specs.declared.Voice.{Voice}
 use Rattle.waiting.specs.Lines as W
 use Rattle.waiting.specs.declared.Line.{Line}
-use Rattle.waiting.specs.declared.LineChanged.{LineChanged}
-use Rattle.sounder.specs.Sounders.{ValidSounder, ValidSounderChanged, ValidSounderPlayed, unwaited, with_present, boxed, changed_box, played_box}
-use Rattle.sounder.specs.Calls.{opened_two, default_sounder, panned, with_master_gain, bank_marks, banked, fade_marks, faded_by, relined}
-use Rattle.sounder.specs.declared.SounderChanged.{SounderChanged}
+use Rattle.sounder.specs.Sounders.{After, Gives, unwaited, with_present}
+use Rattle.sounder.specs.Calls.{Outcome, changed, opened_two, default_sounder, panned, with_master_gain, bank_marks, banked, fade_marks, faded_by}
 use Rattle.sounder.proofs.Heard.{Others, HeardBy}
 use Rattle.sounder.proofs.Settled.{silent}
-use Rattle.error.specs.declared.AudioError.{AudioError}
 
 -- a box whose line stays
-kept_line : {s : Lined} {p : Present} → E.Valid s → Valid p → ValidSounder (boxed (with_present s p))
-kept_line h g = record { inside = record { present = g; line = h.line } }
+kept_line : {s : Lined} {p : Present} → E.Valid s → Valid p → E.Valid (with_present s p)
+kept_line h g = record { present = g; line = h.line }
 
 -- ---- opening
 pub made-opened : {x c : Changed} {k : Marks} {l : Line} → Made M.ValidChanged x c → All (λ v. audible v ≡ false) x.mixer.voices → k ≡ no_marks true false
     → Made W.Valid (W.line_of []) l
-    → Made ValidSounderChanged (changed_box x.outcome (unwaited (beside x.mixer (no_marks true false)))) (changed_box c.outcome (E.lined (beside c.mixer k) None l))
+    → Gives (changed x.outcome (unwaited (beside x.mixer (no_marks true false)))) c.outcome (E.lined (beside c.mixer k) None l)
 made-opened {c = c} h a e n =
     record {
       same = rw (e, h.same, n.same);
-      valid = record { inside = record { present = rw e (none-valid c.mixer true false h.valid (rw h.same a)); line = n.valid } };
+      valid = record { present = rw e (none-valid c.mixer true false h.valid (rw h.same a)); line = n.valid };
     }
 
-default-opens : (opened_two default_duty).sounder ≡ boxed default_sounder
+default-opens : (opened_two default_duty).lined ≡ default_sounder
 unfolding M.opened
 default-opens = refl
 
-pub made-default : {config : AudioConfig} {r : SounderChanged} → config ≡ default_duty → Made ValidSounderChanged (opened_two config) r
-    → Made ValidSounder (boxed default_sounder) r.sounder
-made-default {config} {r} e h =
-    let k : Made ValidSounderChanged (opened_two default_duty) r = rw e at h in
-    record { same = ap (λ (x : SounderChanged). x.sounder) k.same ∙ default-opens; valid = k.valid }
+pub made-default : {config : AudioConfig} {r : Outcome} {s : Lined} → config ≡ default_duty → Gives (opened_two config) r s → Made E.Valid default_sounder s
+made-default {config} {r} {s} e h =
+    let k : Gives (opened_two default_duty) r s = rw e at h in
+    record { same = ap (λ (x : After Outcome). x.lined) k.same ∙ default-opens; valid = k.valid }
 
 -- ---- what starts and silences nothing
 pan-alike : (v : Voice) (pan : ℕ) → audible (with_pan v pan) ≡ audible v
@@ -82,18 +76,18 @@ panned-alike m i pan = by_place (ltb i m.n)
     by_place false = refl
 
 pub made-panned : {s : Lined} (i pan : ℕ) {m : Mixer} → E.Valid s → Made M.Valid (M.panned s.present.mixer i pan) m
-    → Made ValidSounder (boxed (panned s i pan)) (boxed (with_present s (beside m s.present.marks)))
+    → Made E.Valid (panned s i pan) (with_present s (beside m s.present.marks))
 made-panned {s} i pan h g =
     record { same = rw g.same; valid = kept_line h (changed-valid h.present _ g.valid (rw g.same (panned-alike s.present.mixer i pan))) }
 
 pub made-gain : {s : Lined} (gain : ℕ) {m : Mixer} → E.Valid s → Made M.Valid (M.with_master_gain s.present.mixer gain) m
-    → Made ValidSounder (boxed (with_master_gain s gain)) (boxed (with_present s (beside m s.present.marks)))
+    → Made E.Valid (with_master_gain s gain) (with_present s (beside m s.present.marks))
 unfolding M.with_master_gain
 made-gain gain h g = record { same = rw g.same; valid = kept_line h (changed-valid h.present _ g.valid (rw g.same refl)) }
 
 -- ---- what silences all
 pub made-stopped : {s : Lined} (on : Bool) {x m : Mixer} {k : Marks} → E.Valid s → Made M.Valid x m → All (λ v. audible v ≡ false) x.voices → k ≡ no_marks true on
-    → Made ValidSounder (boxed (with_present s (beside x (no_marks true on)))) (boxed (with_present s (beside m k)))
+    → Made E.Valid (with_present s (beside x (no_marks true on))) (with_present s (beside m k))
 made-stopped on {m = m} h g a e = record { same = rw (e, g.same); valid = kept_line h (rw e (none-valid m true on g.valid (rw g.same a))) }
 
 banked-valid : (p : Present) (b : Told SoundBank) → Valid p → M.Valid (M.banked_by p.mixer b).mixer
@@ -104,27 +98,18 @@ banked-valid p (value b) h g =
     none-valid _ p.marks.master p.marks.sounds_on g (all_replicate (λ (w : Voice). audible w ≡ false) 16 v (silent b.sample_rate_hz))
 
 pub made-banked : {s : Lined} (rate count len : ℕ) {c : Changed} {k : Marks} → E.Valid s → Made M.ValidChanged (M.banked s.present.mixer rate count len) c
-    → k ≡ bank_marks c.outcome s.present.marks → Made ValidSounderChanged (banked s rate count len) (changed_box c.outcome (with_present s (beside c.mixer k)))
+    → k ≡ bank_marks c.outcome s.present.marks → Gives (banked s rate count len) c.outcome (with_present s (beside c.mixer k))
 unfolding M.banked
 made-banked {s} rate count len h g e =
     let v = rw g.same at g.valid in
     made (rw (e, g.same)) (kept_line h (banked-valid s.present (bank_of rate count len) h.present v))
 
--- ---- a play request
-pub made-played : {s : Lined} {x r : PresentPlayed} → E.Valid s → Made ValidPresentPlayed x r
-    → Made ValidSounderPlayed (played_box x.outcome (with_present s x.present)) (played_box r.outcome (with_present s r.present))
-made-played {s} h g = record { same = ap (λ (q : PresentPlayed). played_box q.outcome (with_present s q.present)) g.same; valid = kept_line h g.valid }
-
--- ---- leaving and withdrawing
-pub made-relined : {s : Lined} {x c : LineChanged} → E.Valid s → Made W.ValidChanged x c → Made ValidSounderChanged (relined s x) (relined s c)
-made-relined {s} h g = record { same = ap (relined s) g.same; valid = record { inside = record { present = h.present; line = g.valid } } }
-
 -- ---- a fade, of either call
-fade-length : (on : Bool) (o : Result (Unit {0}) AudioError) (k : Marks) → length (fade_marks on o k).voices ≡ length k.voices
+fade-length : (on : Bool) (o : Outcome) (k : Marks) → length (fade_marks on o k).voices ≡ length k.voices
 fade-length on (Ok tt) k = marked-length 1 started_mark k
 fade-length on (Err e) k = refl
 
-fade-order : (on : Bool) (p : Present) (o : Result (Unit {0}) AudioError) (after : Mixer) → Valid p → HeardBy o p.mixer after
+fade-order : (on : Bool) (p : Present) (o : Outcome) (after : Mixer) → Valid p → HeardBy o p.mixer after
     → Ordered (map audible after.voices) (fade_marks on o p.marks).voices
 fade-order on p (Ok tt) after h sub = begun-order h 1 (omega arith) after sub
 fade-order on p (Err e) after h sub = fewer-order h.order sub
@@ -136,15 +121,15 @@ faded-order on {p} {c = c} h g a = fade-order on p c.outcome c.mixer h (rw g.sam
 
 pub made-settled : (on : Bool) {s : Lined} {c : Changed} {k : Marks} {p : Present} → E.Valid s → M.ValidChanged c
     → Ordered (map audible c.mixer.voices) (fade_marks on c.outcome s.present.marks).voices → k ≡ fade_marks on c.outcome s.present.marks
-    → p ≡ settled (beside c.mixer k) → Made ValidSounderChanged (faded_by on s c) (changed_box c.outcome (with_present s p))
+    → p ≡ settled (beside c.mixer k) → Gives (faded_by on s c) c.outcome (with_present s p)
 made-settled on {s} {c} h v o e f =
     record {
       same = rw (f, e);
       valid = kept_line h (rw (f, e) (settled-valid _ v (fade-length on c.outcome s.present.marks ∙ h.present.full) o));
     }
 
-pub made-faded : (on : Bool) (s : Lined) {x c : Changed} {r : SounderChanged} → Made M.ValidChanged x c → Made ValidSounderChanged (faded_by on s c) r
-    → Made ValidSounderChanged (faded_by on s x) r
+pub made-faded : (on : Bool) (s : Lined) {x c : Changed} {r : Outcome} {after : Lined} → Made M.ValidChanged x c → Gives (faded_by on s c) r after
+    → Gives (faded_by on s x) r after
 made-faded on s g h = rw (← g.same) h
 
 -- voice 0 started, in a state that a step of the parts gave
@@ -153,7 +138,7 @@ module _ {s : Lined} {x m : Mixer} {k : Marks} (h : E.Valid s) (g : Made M.Valid
   first-order = rw e (begun-order h.present 0 (omega arith) m (rw g.same a))
 
   pub made-first : {p : Present} → p ≡ settled (beside m k)
-      → Made ValidSounder (boxed (with_present s (settled (beside x (marked_at 0 started_mark s.present.marks))))) (boxed (with_present s p))
+      → Made E.Valid (with_present s (settled (beside x (marked_at 0 started_mark s.present.marks)))) (with_present s p)
   made-first f =
       record {
         same = rw (f, e, g.same);

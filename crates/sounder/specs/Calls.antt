@@ -20,17 +20,22 @@ use Rattle.tone.specs.declared.Waveform.{Waveform}
 use Rattle.waiting.specs.Lines as W
 use Rattle.waiting.specs.Lines.{in_line}
 use Rattle.waiting.specs.declared.LineChanged.{LineChanged}
-use Rattle.sounder.specs.Sounders.{unwaited, with_present, changed_box, played_box}
-use Rattle.sounder.specs.declared.SounderChanged.{SounderChanged}
-use Rattle.sounder.specs.declared.SounderPlayed.{SounderPlayed}
+use Rattle.sounder.specs.Sounders.{After, unwaited, with_present}
 use Rattle.error.specs.declared.AudioError.{AudioError}
 
+-- whether a call was refused, with the state after it
+abbrev pub Outcome : Type 0
+Outcome = Result (Unit {0}) AudioError
+
+abbrev pub changed : Outcome → Lined → After Outcome
+changed outcome s = record { gave = outcome; lined = s }
+
 -- Nothing stands beside any voice, and "gain 255 shall hand the sample through": the master's too, also where opening is refused.
-abbrev pub opened : ℕ → AudioConfig → VoiceStealingPolicy → SounderChanged
-opened n config policy = let c = M.opened n config policy in changed_box c.outcome (unwaited (beside c.mixer (no_marks true false)))
+abbrev pub opened : ℕ → AudioConfig → VoiceStealingPolicy → After Outcome
+opened n config policy = let c = M.opened n config policy in changed c.outcome (unwaited (beside c.mixer (no_marks true false)))
 
 -- two voices, under the policy that stands where none is chosen; turned down as any opening is
-abbrev pub opened_two : AudioConfig → SounderChanged
+abbrev pub opened_two : AudioConfig → After Outcome
 opened_two config = opened 2 config M.default_policy
 
 -- 16,000 Hz, a period of 1,000, first-order shaper, master gain 255
@@ -50,40 +55,40 @@ abbrev pub stopped : Lined → Lined
 stopped s = let p = s.present in with_present s (beside (M.stopped p.mixer) (no_marks true p.marks.sounds_on))
 
 -- "Setting a bank makes .. all voices silent"; "A refusal changes nothing"
-abbrev pub bank_marks : Result (Unit {0}) AudioError → Marks → Marks
+abbrev pub bank_marks : Outcome → Marks → Marks
 bank_marks (Ok tt) k = no_marks k.master k.sounds_on
 bank_marks (Err e) k = k
 
-abbrev pub banked : Lined → ℕ → ℕ → ℕ → SounderChanged
+abbrev pub banked : Lined → ℕ → ℕ → ℕ → After Outcome
 banked s rate count len =
     let c = M.banked s.present.mixer rate count len in
-    changed_box c.outcome (with_present s (beside c.mixer (bank_marks c.outcome s.present.marks)))
+    changed c.outcome (with_present s (beside c.mixer (bank_marks c.outcome s.present.marks)))
 
 -- The voice that a request got was started, and is the youngest; "A refusal changes nothing" (`requests`). A payload that fails is refused with 15 or 16,
 -- document 02's numbers.
-abbrev pub played : Lined → List ℕ → Request → SounderPlayed
-played s bytes r = let q = played_present s.present bytes r in played_box q.outcome (with_present s q.present)
+abbrev pub played : Lined → List ℕ → Request → After (Result ℕ AudioError)
+played s bytes r = let q = played_present s.present bytes r in record { gave = q.outcome; lined = with_present s q.present }
 
 -- the last fade was begun by this call, true for the second
 abbrev pub begun_by : Bool → Marks → Marks
 begun_by on k = record { voices = k.voices; master = k.master; sounds_on = on }
 
 -- "A fade starts voice 1", and the last fade is this call's
-abbrev pub fade_marks : Bool → Result (Unit {0}) AudioError → Marks → Marks
+abbrev pub fade_marks : Bool → Outcome → Marks → Marks
 fade_marks on (Ok tt) k = begun_by on (marked_at 1 started_mark k)
 fade_marks on (Err e) k = k
 
 -- voice 0 was released, and may be inaudible
-abbrev pub faded_by : Bool → Lined → Changed → SounderChanged
-faded_by on s c = changed_box c.outcome (with_present s (settled (beside c.mixer (fade_marks on c.outcome s.present.marks))))
+abbrev pub faded_by : Bool → Lined → Changed → After Outcome
+faded_by on s c = changed c.outcome (with_present s (settled (beside c.mixer (fade_marks on c.outcome s.present.marks))))
 
 -- The call of old: voice 0 is released also where the fade is refused at its entry start, with 10, 15 or 16: "The release of voice 0 by a fade now
 -- goes with these."
-abbrev pub faded : Lined → List ℕ → ℕ → ℕ → AdsrSpec → SounderChanged
+abbrev pub faded : Lined → List ℕ → ℕ → ℕ → AdsrSpec → After Outcome
 faded s bytes id ms adsr = faded_by false s (F.faded_under true s.present.mixer bytes id ms adsr)
 
 -- "a second fade call, at whose end voice 0 also takes voice 1's envelope"; "being turned down changes nothing at all" (`sounder` on-refused)
-abbrev pub faded_on : Lined → List ℕ → ℕ → ℕ → AdsrSpec → SounderChanged
+abbrev pub faded_on : Lined → List ℕ → ℕ → ℕ → AdsrSpec → After Outcome
 faded_on s bytes id ms adsr = faded_by true s (F.faded_on s.present.mixer bytes id ms adsr)
 
 -- Tone and PolyBLEP start voice 0; "with N = 0 they do nothing", and settling leaves nothing beside the silent place.
@@ -102,12 +107,12 @@ ranks_in s = map (λ k. k.rank) s.present.marks.voices
 -- ---- requests that wait
 
 -- what `waiting` makes of the line; nothing else changes, and nothing is tried
-abbrev pub relined : Lined → LineChanged → SounderChanged
-relined s c = changed_box c.outcome (lined s.present s.kept c.line)
+abbrev pub relined : Lined → LineChanged → After Outcome
+relined s c = changed c.outcome (lined s.present s.kept c.line)
 
 -- "A caller may leave a request under a 16-bit label of its choosing, and withdraw it"
-abbrev pub left_in : Lined → ℕ → Request → SounderChanged
+abbrev pub left_in : Lined → ℕ → Request → After Outcome
 left_in s label r = relined s (W.changed_line s.line (W.left (record { label = label; request = r }) (in_line s.line)))
 
-abbrev pub withdrawn_in : Lined → ℕ → SounderChanged
+abbrev pub withdrawn_in : Lined → ℕ → After Outcome
 withdrawn_in s label = relined s (W.changed_line s.line (W.withdrawn label (in_line s.line)))

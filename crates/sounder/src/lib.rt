@@ -1,4 +1,5 @@
-// The box of the present rules: its open calls over the mixer's parts. Its state is private, so that each box comes from these calls.
+// The box of the present rules: its open calls over the mixer's parts. Its state is private, so that each box comes from these calls; a clause sees
+// that state in a box's place.
 #![tactic(auto)]
 
 ghost use Rattle.std.specs.Prelude.{◌≡◌, true, length, map};
@@ -7,9 +8,11 @@ ghost use Rattle.laws.specs.Made.{Made};
 ghost use Rattle.allocate.specs.Allocation.{allocated_oldest, told_place};
 ghost use Rattle.bank.specs.Banks.{payload_under, payload_part};
 ghost use Rattle.bank.specs.Search.{found_given};
+ghost use Rattle.entering.specs.Lined.{Valid};
 ghost use Rattle.frame.specs.Lasting.{frames_left};
+ghost use Rattle.marks.specs.Marks as K;
 ghost use Rattle.mixer.specs.Mixers as M;
-ghost use Rattle.sounder.specs.Sounders.{ValidSounder, ValidSounderChanged, boxed, with_present};
+ghost use Rattle.sounder.specs.Sounders.{Gives};
 ghost use Rattle.sounder.specs.Calls.{opened, panned, with_master_gain, stopped, bank_marks, banked, ranks_in};
 
 use bank::EffectEntry;
@@ -18,6 +21,7 @@ use entering::Lined;
 use error::AudioError;
 use marks::{Mark, Marks, Present};
 use mixer::{Mixer, VoiceStealingPolicy};
+use std::marker::Model;
 use voice::Voice;
 use waiting::Line;
 
@@ -33,18 +37,18 @@ pub struct Sounder {
     state: Lined,
 }
 
-// A box, and whether the call was refused.
-#[derive(Clone, Copy)]
-pub struct SounderChanged {
-    pub outcome: Result<(), AudioError>,
-    pub sounder: Sounder,
-}
+// A box that is handed in is one that these calls gave back: each is valid, so no call asks it.
+impl Model for Sounder {
+    ghost use Rattle.entering.specs.Lined.{Valid};
+    ghost use Rattle.entering.specs.declared.Lined.{Lined};
 
-// A box, and the voice that the request got.
-#[derive(Clone, Copy)]
-pub struct SounderPlayed {
-    pub outcome: Result<usize, AudioError>,
-    pub sounder: Sounder,
+    ghost Value = { Lined };
+
+    ghost view = { λ s. s.state };
+
+    ghost invariant = { λ s. Valid s.state };
+
+    ghost inverse = { λ s. record { state = s } };
 }
 
 fn bank_marks(outcome: Result<(), AudioError>, marks: Marks) -> Marks
@@ -59,23 +63,21 @@ fn bank_marks(outcome: Result<(), AudioError>, marks: Marks) -> Marks
 fn ranks_of(marks: [Mark; 16]) -> [u8; 16]
     ensures { result ≡ map (λ k. k.rank) marks }
 {
-    let mut ranks: [u8; 16] = [255; 16];
-    for i in 0..16 {
-        let k = marks[i];
-        ranks[i] = k.rank;
-    }
-    ranks
+    marks.map(|k| k.rank)
 }
 
 impl Sounder {
-    pub fn open(n: usize, config: AudioConfig, policy: VoiceStealingPolicy) -> SounderChanged
-        ensures { Made ValidSounderChanged (opened n config policy) result }
+    // The box is given where opening is refused too: one of no voices.
+    pub fn open(
+        n: usize,
+        config: AudioConfig,
+        policy: VoiceStealingPolicy,
+    ) -> (Sounder, Result<(), AudioError>)
+        ensures { Gives (opened n config policy) result.1 result.0 }
     {
         let c = Mixer::open(n, config, policy);
-        let outcome = c.outcome;
-        let mixer = c.mixer;
         let present = Present {
-            mixer,
+            mixer: c.mixer,
             marks: Marks::none(true, false),
         };
         let state = Lined {
@@ -83,192 +85,135 @@ impl Sounder {
             line: Line::empty(),
             kept: None,
         };
-        SounderChanged {
-            outcome,
-            sounder: Sounder { state },
-        }
-    }
-
-    // The box with what a call made of the mixer and the marks; requests wait as before.
-    fn with(self, present: Present) -> Sounder
-        ensures { result ≡ boxed (with_present self.state present) }
-    {
-        let lined = self.state;
-        let state = Lined { present, ..lined };
-        Sounder { state }
+        (Sounder { state }, c.outcome)
     }
 
     // The state, to be looked at.
-    pub fn state(self) -> Present
-        ensures { result ≡ self.state.present }
+    pub fn state(&self) -> Present
+        ensures { Made K.Valid self.now.present result }
     {
         self.state.present
     }
 
-    pub fn config(self) -> AudioConfig
-        ensures { result ≡ self.state.present.mixer.config }
+    pub fn config(&self) -> AudioConfig
+        ensures { result ≡ self.now.present.mixer.config }
     {
-        let p = self.state.present;
-        let m = p.mixer;
-        m.config
+        self.state.present.mixer.config
     }
 
-    pub fn stealing_policy(self) -> VoiceStealingPolicy
-        ensures { result ≡ self.state.present.mixer.stealing_policy }
+    pub fn stealing_policy(&self) -> VoiceStealingPolicy
+        ensures { result ≡ self.now.present.mixer.stealing_policy }
     {
-        let p = self.state.present;
-        let m = p.mixer;
-        m.stealing_policy
+        self.state.present.mixer.stealing_policy
     }
 
-    pub fn voice_count(self) -> usize
-        ensures { result ≡ self.state.present.mixer.n }
+    pub fn voice_count(&self) -> usize
+        ensures { result ≡ self.now.present.mixer.n }
     {
-        let p = self.state.present;
-        let m = p.mixer;
-        m.n
+        self.state.present.mixer.n
     }
 
-    pub fn active_voice_count(self) -> usize
-        requires { ValidSounder self }
-        ensures { result ≡ M.audible_count self.state.present.mixer }
+    pub fn active_voice_count(&self) -> usize
+        ensures { result ≡ M.audible_count self.now.present.mixer }
     {
-        let p = self.state.present;
-        let m = p.mixer;
-        m.active_voice_count()
+        self.state.present.mixer.active_voice_count()
     }
 
-    pub fn is_playing(self) -> bool
-        requires { ValidSounder self }
-        ensures { result ≡ M.playing self.state.present.mixer }
+    pub fn is_playing(&self) -> bool
+        ensures { result ≡ M.playing self.now.present.mixer }
     {
-        let p = self.state.present;
-        let m = p.mixer;
-        m.is_playing()
+        self.state.present.mixer.is_playing()
     }
 
-    pub fn voice(self, idx: usize) -> Option<Voice>
-        requires { ValidSounder self }
-        ensures { result ≡ M.voice_read self.state.present.mixer idx }
+    pub fn voice(&self, idx: usize) -> Option<Voice>
+        ensures { result ≡ M.voice_read self.now.present.mixer idx }
     {
-        let p = self.state.present;
-        let m = p.mixer;
-        m.voice(idx)
+        self.state.present.mixer.voice(idx)
     }
 
     // The rank of each voice among the audible ones, by when it was started: 0 the oldest, 255 for a voice that is inaudible.
-    pub fn ranks(self) -> [u8; 16]
-        ensures { result ≡ ranks_in self.state }
+    pub fn ranks(&self) -> [u8; 16]
+        ensures { result ≡ ranks_in self.now }
     {
-        let p = self.state.present;
-        let k = p.marks;
-        let marks = k.voices;
-        ranks_of(marks)
+        ranks_of(self.state.present.marks.voices)
     }
 
-    pub fn voice_pan(self, idx: usize) -> Option<u8>
-        requires { ValidSounder self }
-        ensures { result ≡ M.pan_read self.state.present.mixer idx }
+    pub fn voice_pan(&self, idx: usize) -> Option<u8>
+        ensures { result ≡ M.pan_read self.now.present.mixer idx }
     {
-        let p = self.state.present;
-        let m = p.mixer;
-        m.voice_pan(idx)
+        self.state.present.mixer.voice_pan(idx)
     }
 
-    pub fn set_voice_pan(self, idx: usize, pan_q8: u8) -> Sounder
-        requires { ValidSounder self }
-        ensures { Made ValidSounder (boxed (panned self.state idx pan_q8)) result }
+    pub fn set_voice_pan(&mut self, idx: usize, pan_q8: u8)
+        ensures { Made Valid (panned self.old idx pan_q8) self.new }
     {
-        let p = self.state.present;
-        let m = p.mixer;
-        let mixer = m.set_voice_pan(idx, pan_q8);
-        let marks = p.marks;
-        self.with(Present { mixer, marks })
+        let m = self.state.present.mixer;
+        self.state.present.mixer = m.set_voice_pan(idx, pan_q8);
     }
 
-    pub fn set_master_gain_q8(self, gain: u8) -> Sounder
-        requires { ValidSounder self }
-        ensures { Made ValidSounder (boxed (with_master_gain self.state gain)) result }
+    pub fn set_master_gain_q8(&mut self, gain: u8)
+        ensures { Made Valid (with_master_gain self.old gain) self.new }
     {
-        let p = self.state.present;
-        let m = p.mixer;
-        let mixer = m.set_master_gain_q8(gain);
-        let marks = p.marks;
-        self.with(Present { mixer, marks })
+        let m = self.state.present.mixer;
+        self.state.present.mixer = m.set_master_gain_q8(gain);
     }
 
-    pub fn stop_all(self) -> Sounder
-        requires { ValidSounder self }
-        ensures { Made ValidSounder (boxed (stopped self.state)) result }
+    pub fn stop_all(&mut self)
+        ensures { Made Valid (stopped self.old) self.new }
     {
         let p = self.state.present;
-        let m = p.mixer;
-        let old = p.marks;
-        let mixer = m.stop_all();
-        let marks = Marks::none(true, old.sounds_on);
-        self.with(Present { mixer, marks })
+        let mixer = p.mixer.stop_all();
+        let marks = Marks::none(true, p.marks.sounds_on);
+        self.state.present = Present { mixer, marks };
     }
 
     // The bank's bytes are those lent; each later call that reads the bank is lent them again.
-    pub fn set_bank(self, bytes: &[u8], sample_rate_hz: u32, effect_count: u16) -> SounderChanged
-        requires { ValidSounder self }
-        ensures { Made ValidSounderChanged (banked self.state sample_rate_hz effect_count (length bytes.now)) result }
+    pub fn set_bank(
+        &mut self,
+        bytes: &[u8],
+        sample_rate_hz: u32,
+        effect_count: u16,
+    ) -> Result<(), AudioError>
+        ensures { Gives (banked self.old sample_rate_hz effect_count (length bytes.now)) result self.new }
     {
         let p = self.state.present;
-        let m = p.mixer;
-        let old = p.marks;
-        let c = m.set_bank(sample_rate_hz, effect_count, bytes.len());
-        let outcome = c.outcome;
-        let mixer = c.mixer;
-        let marks = bank_marks(outcome, old);
-        SounderChanged {
-            outcome,
-            sounder: self.with(Present { mixer, marks }),
-        }
+        let c = p.mixer.set_bank(sample_rate_hz, effect_count, bytes.len());
+        let marks = bank_marks(c.outcome, p.marks);
+        self.state.present = Present {
+            mixer: c.mixer,
+            marks,
+        };
+        c.outcome
     }
 
-    pub fn allocate_voice(self, priority: u8) -> Option<usize>
-        requires { ValidSounder self }
-        ensures { told_place result ≡ allocated_oldest self.state.present priority }
+    pub fn allocate_voice(&self, priority: u8) -> Option<usize>
+        ensures { told_place result ≡ allocated_oldest self.now.present priority }
     {
         allocate::allocate_oldest(self.state.present, priority)
     }
 
-    pub fn find_by_id(self, bytes: &[u8], id: u16) -> Result<EffectEntry, AudioError>
-        requires { ValidSounder self }
-        ensures { told result ≡ found_given self.state.present.mixer.bank bytes.now id }
+    pub fn find_by_id(&self, bytes: &[u8], id: u16) -> Result<EffectEntry, AudioError>
+        ensures { told result ≡ found_given self.now.present.mixer.bank bytes.now id }
     {
-        let p = self.state.present;
-        let m = p.mixer;
-        let bank = m.bank;
-        bank::find_by_id(bank, bytes, id)
+        bank::find_by_id(self.state.present.mixer.bank, bytes, id)
     }
 
-    pub fn payload_number(self, bytes: &[u8], offset: u32, len: u32) -> Result<(), AudioError>
-        ensures { told result ≡ payload_under true self.state.present.mixer.bank bytes.now offset len }
+    pub fn payload_number(&self, bytes: &[u8], offset: u32, len: u32) -> Result<(), AudioError>
+        ensures { told result ≡ payload_under true self.now.present.mixer.bank bytes.now offset len }
     {
-        let p = self.state.present;
-        let m = p.mixer;
-        let bank = m.bank;
-        bank::payload_number(bank, bytes, offset, len, true)
+        bank::payload_number(self.state.present.mixer.bank, bytes, offset, len, true)
     }
 
-    pub fn payload(self, bytes: &[u8], offset: u32, len: u32) -> &[u8]
-        ensures { result.now ≡ payload_part self.state.present.mixer.bank bytes.now offset len }
+    pub fn payload<'a>(&self, bytes: &'a [u8], offset: u32, len: u32) -> &'a [u8]
+        ensures { result.now ≡ payload_part self.now.present.mixer.bank bytes.now offset len }
     {
-        let p = self.state.present;
-        let m = p.mixer;
-        let bank = m.bank;
-        bank::payload(bank, bytes, offset, len)
+        bank::payload(self.state.present.mixer.bank, bytes, offset, len)
     }
 
     // How many frames a fade has left, the one in which it ends among them; 0 where none is running.
-    pub fn fade_frames_left(self) -> u8
-        requires { ValidSounder self }
-        ensures { result ≡ frames_left self.state.present.mixer }
+    pub fn fade_frames_left(&self) -> u8
+        ensures { result ≡ frames_left self.now.present.mixer }
     {
-        let p = self.state.present;
-        let m = p.mixer;
-        frame::frames_left(m)
+        frame::frames_left(self.state.present.mixer)
     }
 }

@@ -5,8 +5,9 @@ use native.Mathlib.Omega.{arith}
 use mathlib.Core.Path.{◌≡◌, refl, ap, sym, ◌∙◌}
 use mathlib.Core.Bool.{Bool, true, false, cond}
 use mathlib.Core.List.{List, [], ◌∷◌}
-use lib.ListN.{length, get_or, take, drop}
-use lib.Seq.{take-length}
+use lib.ListN.{length, get_or, take, drop, drop_of_length-le}
+use lib.Seq.{take-length, drop-cons}
+use native.Mathlib.Numerals.{add-one}
 use Rattle.config.specs.Config.{rounded_up}
 use Rattle.entering.specs.Entering.{voice_free}
 use Rattle.entering.proofs.Free.{all-audible, none_free}
@@ -19,7 +20,7 @@ use Rattle.frame.proofs.Fades.{mono-fade}
 use Rattle.frame.proofs.Lasting.{Moves, valid-moves, same_left, left-none, left-most, lasts}
 use Rattle.laws.specs.Lists.{All, map_first, only}
 use Rattle.laws.specs.Runs.{after}
-use Rattle.laws.proofs.Lists.{length-map_first, all-imp, all_take, drop-take-cons, drop-take-end}
+use Rattle.laws.proofs.Lists.{length-map_first, all-imp, all_take}
 use Rattle.marks.specs.Marks as K
 use Rattle.marks.specs.Marks.{no_marks, settled}
 use Rattle.marks.specs.declared.Present.{Present}
@@ -228,11 +229,11 @@ pub least_start : (m : Mixer) → min (fade_lasts m) (all_last (voices_of m)) �
 unfolding steady_frames
 least_start m = refl
 
-pub least-turn : (n i least : ℕ) (vs : List Voice) (d : Voice) → i < n → n ≤ length vs
-    → min (min least (voice_lasts (get_or vs i d))) (all_last (drop (i + 1) (take n vs))) ≡ min least (all_last (drop i (take n vs)))
+pub least-turn : (i least : ℕ) (vs : List Voice) (d : Voice) → i < length vs
+    → min (min least (voice_lasts (get_or vs i d))) (all_last (drop (i + 1) vs)) ≡ min least (all_last (drop i vs))
 unfolding all_last
-least-turn n i least vs d h k = rw (drop-take-cons n i vs d h k) (omega arith)
+least-turn i least vs d h = rw (add-one, drop-cons vs i d h) (omega arith)
 
-pub least-end : (n least : ℕ) (vs : List Voice) → least ≤ forever → least ≡ min least (all_last (drop n (take n vs)))
+pub least-end : (i least : ℕ) (vs : List Voice) → length vs ≤ i → least ≤ forever → least ≡ min least (all_last (drop i vs))
 unfolding all_last
-least-end n least vs h = rw (drop-take-end n vs) (omega arith)
+least-end i least vs l h = rw (drop_of_length-le vs l) (omega arith)

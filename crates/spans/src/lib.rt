@@ -2,7 +2,7 @@
 // box of the present rules (document 02, T-08).
 #![tactic(auto)]
 
-ghost use Rattle.std.specs.Prelude.{◌≡◌, min};
+ghost use Rattle.std.specs.Prelude.{◌≡◌};
 ghost use Rattle.mixer.specs.Mixers.{Valid};
 ghost use Rattle.voice.specs.Voices as S;
 ghost use Rattle.spans.specs.Spans.{samples_last, source_lasts, voice_lasts, fade_lasts, steady_frames};
@@ -17,9 +17,10 @@ const FOREVER: u32 = 4294967295;
 fn samples_last(left: u32) -> u32
     ensures { result ≡ samples_last left }
 {
-    if left == FOREVER { FOREVER } else { left + 1 }
+    left.saturating_add(1)
 }
 
+// Counts of frames: 1 for a source that gives none, since at least one frame is made.
 fn source_lasts(source: VoiceSource) -> u32
     ensures { result ≡ source_lasts source }
 {
@@ -58,22 +59,14 @@ fn fade_lasts(m: Mixer) -> u32
     }
 }
 
-fn lower(a: u32, b: u32) -> u32
-    ensures { result ≡ min a b }
-{
-    if a < b { a } else { b }
-}
-
 // Where all voices are audible, they are all audible after fewer frames than this, of any kind; at least 1.
 pub fn steady_frames(m: Mixer) -> u32
     requires { Valid m }
     ensures { result ≡ steady_frames m }
 {
-    let n = m.n;
     let mut least = fade_lasts(m);
-    for i in 0..n {
-        let v = m.voices[i];
-        least = lower(least, voice_lasts(v));
+    for v in &m.voices[..m.n] {
+        least = least.min(voice_lasts(*v));
     }
     least
 }

@@ -56,6 +56,7 @@ fn start_at(
     Ok(started_voice(rate, entry.default_gain_q8, priority, source, adsr))
 }
 
+// `parted` here and below is the rule of `bank::payload_number`, handed on as it is.
 #[tactic(auto, using(error::proofs::Told::answered), unfolding(crate::specs::Starts::entry_start_under))]
 pub fn start_entry(
     bank: Option<SoundBank>,

@@ -1,7 +1,10 @@
 -- A loop that writes a wave at phases a step apart. Assumes nothing.
-use Rattle.std.proofs.Common.{◌≡◌, ℕ, ◌+◌, ◌<◌, ◌≤◌, List, [], ◌∷◌, set, ℤ, arith, w8, SFits, to_z, of_z}
+use Rattle.std.proofs.Common.{◌≡◌, ℕ, ◌+◌, ◌<◌, ◌≤◌, List, [], ◌∷◌, ◌++◌, length, take, set, ℤ, arith, w8, SFits, to_z, of_z}
+use borrow.Rule.Slice.PartMut.{post_of}
 use mir.ValLaws.{to_z-of_z}
+use lib.Seq.{length-take-le}
 use Rattle.laws.specs.Runs.{given}
+use Rattle.laws.proofs.Parts.{front-filled}
 use Rattle.laws.proofs.Stores.{Wrote, wrote_none, front-one}
 use Rattle.tone.specs.Blocks.{Waved}
 
@@ -24,4 +27,11 @@ module _ {P : Type 0} {move : P → P} {wave : P → ℤ} where
   left-turn {s = s} l h m w f = record { most = omega arith; wrote = rw (to_z-of_z w8 s f, m, w) (front-one move wave l.wrote) }
 
   pub left_end : {n : ℕ} {first : P} {before : List ℤ} {k : ℕ} {p : P} {cells : List ℤ} → Left move wave n first before k p cells → n ≤ k → Waved move wave n first before p cells
-  left_end {n = n} {k = k} l h = let e : k ≡ n = omega arith in record { moved = rw e at l.wrote.state; taken = rw e at l.wrote.stored }
+  left_end {n = n} {k = k} l h = let e : k ≡ n = omega (arith, l.most) in record { moved = rw e at l.wrote.state; taken = rw e at l.wrote.stored }
+
+  -- the first n cells of a block, lent and filled
+  pub waved_front : (n : ℕ) {first : P} (before : List ℤ) {p : P} {cells : List ℤ} → n ≤ length before
+      → Waved move wave (length (take n before)) first (take n before) p cells → Waved move wave n first before p (cells ++ post_of 0 n before)
+  waved_front n before h w =
+      let v = front-filled before n h (length-take-le n before h) (record { state = w.moved; stored = w.taken }) in
+      record { moved = v.state; taken = v.stored }

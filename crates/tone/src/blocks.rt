@@ -1,5 +1,5 @@
 // A block of samples at once. Each waveform has a loop of its own, so that the waveform is looked at once a block.
-ghost use Rattle.std.specs.Prelude.{◌≡◌, ◌≤◌, ℕ, ℤ, min, true};
+ghost use Rattle.std.specs.Prelude.{◌≡◌, ◌≤◌, ℕ, ℤ, min, true, length};
 ghost use Rattle.fixed.specs.Fixed.{index_of, sine};
 ghost use Rattle.tone.specs.Tones.{square, triangle};
 ghost use Rattle.tone.specs.Blocks.{Waved, ToneBlock, given_by, less_by, turned, wave_at};
@@ -73,32 +73,31 @@ impl Wave for Triangle {
     }
 }
 
-// n samples from the phase on, and the phase after them.
-fn fill_with<W: Wave>(phase: u32, inc: u32, n: usize, out: &mut [i8; 256]) -> u32
-    requires { n ≤ 256 }
-    ensures { Waved (turned inc) (λ p. W.value (index_of p)) n phase out.old result out.new }
+// A sample in each cell, from the phase on, and the phase after them.
+fn fill_with<W: Wave>(phase: u32, inc: u32, out: &mut [i8]) -> u32
+    ensures { Waved (turned inc) (λ p. W.value (index_of p)) (length out.old) phase out.old result out.new }
 {
     let mut p = phase;
-    for k in 0..n {
-        out[k] = W::at(fixed::phase_index(p));
+    for cell in out {
+        *cell = W::at(fixed::phase_index(p));
         p = p.wrapping_add(inc);
     }
     p
 }
 
-fn fill_wave(waveform: Waveform, phase: u32, inc: u32, n: usize, out: &mut [i8; 256]) -> u32
-    requires { n ≤ 256 }
-    ensures { Waved (turned inc) (wave_at waveform) n phase out.old result out.new }
+fn fill_wave(waveform: Waveform, phase: u32, inc: u32, out: &mut [i8]) -> u32
+    ensures { Waved (turned inc) (wave_at waveform) (length out.old) phase out.old result out.new }
 {
     match waveform {
-        Waveform::Square => fill_with::<Square>(phase, inc, n, out),
-        Waveform::Sine => fill_with::<Sine>(phase, inc, n, out),
-        Waveform::Triangle => fill_with::<Triangle>(phase, inc, n, out),
+        Waveform::Square => fill_with::<Square>(phase, inc, out),
+        Waveform::Sine => fill_with::<Sine>(phase, inc, out),
+        Waveform::Triangle => fill_with::<Triangle>(phase, inc, out),
     }
 }
 
 impl ToneVoice {
     // len requests: what is given is how many of them, the first ones, gave a sample, written from the front on. Past 256 nothing is asked for.
+    // A block is lent, since there is no heap, and has one size for all sources.
     pub fn fill(self, len: usize, out: &mut [i8; 256]) -> Step<ToneVoice, usize>
         ensures { ToneBlock self (min len 256) out.old result out.new }
     {
@@ -118,7 +117,7 @@ impl ToneVoice {
         ensures { ToneBlock self len out.old result out.new }
     {
         let given = given_of(self.samples_left, len);
-        let phase = fill_wave(self.waveform, self.phase, self.phase_inc, given, out);
+        let phase = fill_wave(self.waveform, self.phase, self.phase_inc, &mut out[..given]);
         let voice = ToneVoice {
             phase,
             samples_left: less(self.samples_left, given),

@@ -13,6 +13,7 @@ use fixed::Step;
 
 impl VoiceSource {
     // len requests, 256 at most: what is given is how many of them, the first ones, gave a sample, written from the front on.
+    // The block is the one of 256 that the sources' own calls take.
     fn fill(self, len: usize, out: &mut [i8; 256]) -> Step<VoiceSource, usize>
         requires { ValidSource self }
         ensures { SourceBlock self (min len 256) out.old result out.new }
@@ -47,7 +48,8 @@ impl VoiceSource {
     }
 }
 
-// The first n cells, each by its level, then by the voice's gain.
+// The first n cells, each by its level, then by the voice's gain. `whole` is the rule of gain 255, as `fixed::apply_gain_by` takes it.
+// By index: tried `iter_mut().zip(levels)`, and the proof did not close, since that loop's state is an iterator of two parts.
 fn shape(samples: &mut [i8; 256], levels: &[u8; 256], gain_q8: u8, whole: bool, n: usize)
     requires { n ≤ 256 }
     ensures { samples.new ≡ shaped_first whole gain_q8 n samples.old levels.now }
@@ -58,7 +60,7 @@ fn shape(samples: &mut [i8; 256], levels: &[u8; 256], gain_q8: u8, whole: bool, 
     }
 }
 
-// Whether a source that gave so many of n samples was active before the last of the n requests.
+// Whether a source that gave so many of n samples was active before the last of the n requests. What it was before is a fact, and no switch.
 fn lasting(is_active: bool, given: usize, n: usize) -> bool
     requires { given ≤ 256 }
     ensures { result ≡ cond is_active (leb n (given + 1)) false }
@@ -66,7 +68,7 @@ fn lasting(is_active: bool, given: usize, n: usize) -> bool
     is_active && n <= given + 1
 }
 
-// The source that a voice keeps: the idle one where nothing can be heard.
+// The source that a voice keeps: the idle one where nothing can be heard. Whether it was active is its caller's to say, who knows it of a block.
 pub(crate) fn keep(source: VoiceSource, is_active: bool, adsr: Adsr) -> VoiceSource
     ensures { result ≡ kept (is_active || active adsr) source }
 {
@@ -77,6 +79,7 @@ pub(crate) fn keep(source: VoiceSource, is_active: bool, adsr: Adsr) -> VoiceSou
     }
 }
 
+// `Valid self` stays, as lib.rt says.
 impl Voice {
     // len ticks, 256 at most, a sample asked for after each: what is given is in how many of them, the first ones, it gave a sample, which
     // the cells take from the front on, by the rule `whole` of gain 255.

@@ -23,6 +23,8 @@ pub struct Voice {
     pub sample_rate_hz: u32,
 }
 
+// `Valid self` stays a fact of the contracts: mixers hold voices and go by value, and a Copy struct that holds a struct with a model is not copied
+// in a proof (tried with the PolyBLEP oscillator: the proof did not close).
 impl Voice {
     #[tactic(auto, unfolding(crate::specs::Voices::silent_voice))]
     pub fn silent(sample_rate_hz: u32) -> Voice

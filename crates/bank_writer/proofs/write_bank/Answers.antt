@@ -57,13 +57,10 @@ returns-then-starts-count c =
     let a = c.args in
     wrote-13 a.out.now (not-adding a.header a.entries a.count a.payloads.now (length a.out.now) c.if-count-gt-MAX_ENTRIES.false (sym c.some_outside.ensures ∙ c.if-some_outside.false) (λ e. c.if-starts-count.true (ends a.entries c.starts_of-starts.result a.count c.well_formed.1.0.1.0.1 c.if-count-gt-MAX_ENTRIES.false c.starts_of-starts.ensures ∙ e)))
 
-pub slice_bounds-order_of-end : goal.slice_bounds-order_of-end
-slice_bounds-order_of-end c = sym c.ids_of-ids.ensures.size
-
 pub order_of-requires : goal.order_of-requires
 order_of-requires c =
     let i = c.ids_of-ids.ensures in
-    (c.if-count-gt-MAX_ENTRIES.false, i.size, i.past)
+    (c.if-count-gt-MAX_ENTRIES.false, i.past)
 
 pub returns-in_default : goal.returns-in_default
 returns-in_default c =

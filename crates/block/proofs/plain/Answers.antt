@@ -68,24 +68,3 @@ returns c =
           (valid-monos a.len a.m c.requires.0);
       cells = written_as (mono-cell a.m a.marks a.len a.at q e c.gain_factor-gain.ensures.0 c.loop-i.invariant.2 c.loop-i.invariant.3) c.write_means.ensures;
     }
-
-pub offset_bounds-mixed-i : goal.offset_bounds-mixed-i
-offset_bounds-mixed-i c = omega (arith, few c)
-
-pub bounds-mixed-i : goal.bounds-mixed-i
-bounds-mixed-i c = few c
-
-pub offset_bounds-marks-i : goal.offset_bounds-marks-i
-offset_bounds-marks-i c = omega (arith, few (goal.at.offset_bounds-marks-i c).In-loop-i)
-
-pub bounds-marks-i : goal.bounds-marks-i
-bounds-marks-i c = few (goal.at.bounds-marks-i c).In-loop-i
-
-pub offset_bounds-mixed-i-in-loop-i : goal.offset_bounds-mixed-i-in-loop-i
-offset_bounds-mixed-i-in-loop-i c = omega (arith, few (goal.at.offset_bounds-mixed-i-in-loop-i c).In-loop-i)
-
-pub bounds-mixed-i-in-loop-i : goal.bounds-mixed-i-in-loop-i
-bounds-mixed-i-in-loop-i c = few (goal.at.bounds-mixed-i-in-loop-i c).In-loop-i
-
-pub overflow_step-i : goal.overflow_step-i
-overflow_step-i c = omega (arith, few (goal.at.overflow_step-i c).In-loop-i)

@@ -1,19 +1,17 @@
 -- `exports_replay::answers` meets its contract: what is left of the run, from each line on, is the run. The measure is what is left of the script.
-use mathlib.Core.Path.{◌≡◌, ◌∙◌}
 use mathlib.Core.List.{List}
-use Prim.Native.Nat.{ℕ, ◌-◌, ◌≤◌}
+use Prim.Native.Nat.{ℕ, ◌≤◌}
 use lib.ListN.{length}
-use Rattle.replay_session.specs.Sessions.{ValidSession}
-use Rattle.replay_session.specs.declared.Session.{Session}
-use Rattle.exports_replay.specs.Runs.{answered}
+use Rattle.replay_session.specs.Runs.{Run}
+use Rattle.replay_session.specs.Sessions.{session_answer}
 use Rattle.exports_replay.proofs.Going.{Going}
 use Rattle.exports_replay.proofs.answers.Given as goal
 
-abbrev pub text : Session → List ℕ → List ℕ → List ℕ
-text s cells l = (answered s cells l).text
+abbrev pub text : Run → List ℕ → List ℕ
+text s l = (session_answer s l).text
 
 abbrev pub invariant-loop-good : goal.invariant-loop-good
-invariant-loop-good l = Going text l.script l.initial.out l.out l.len l.good l.s l.lent l.at × ValidSession l.s × (l.at ≤ length l.script) × (l.len ≤ 18446744073709551615)
+invariant-loop-good l = Going text l.script l.initial.out l.out l.len l.good l.s l.left × (l.len ≤ 18446744073709551615)
 
 abbrev pub decreases-loop-good : goal.decreases-loop-good
-decreases-loop-good l = length l.script - l.at
+decreases-loop-good l = length l.left

@@ -1,8 +1,9 @@
 -- What is left of the run, from each turn on, is the run. Assumes nothing.
 use mathlib.Core.Path.{refl, ap}
 use native.Mathlib.Omega.{arith}
+use Prim.Native.Nat.{ℕ}
 use Rattle.hex_digits.proofs.Texts.{shown, then}
-use Rattle.sounder.specs.declared.ticks.SounderDuty.{SounderDuty}
+use Rattle.sounder.specs.Sounders.{After}
 use Rattle.framelist_answers.specs.Lines.{next, duty_line}
 use Rattle.framelist_answers.proofs.Frames.{going_start, going-turn, going_end, going-same}
 use Rattle.framelist_answers.proofs.frames_answer.Goals as goal
@@ -10,11 +11,11 @@ use Rattle.framelist_answers.proofs.frames_answer.Goals as goal
 pub loop-preserved : goal.loop-preserved
 loop-preserved c =
     let v = c.loop.invariant in
-    let same = c.ticked-d.ensures.same in (
-      going-turn next duty_line c.loop-test.true (ap (λ (d : SounderDuty). d.sounder) same) v.0
-          (then (shown 4 (ap (λ (d : SounderDuty). d.duty) same) c.put-digits.ensures.0) c.end_line-at.ensures.0),
-      c.ticked-d.ensures.valid,
-      omega (arith, v.2, c.put-digits.ensures.1, c.end_line-at.ensures.1),
+    let same = c.tick-duty.ensures.same in
+    let put = rw c.from.ensures at c.put-digits.ensures.0 in (
+      going-turn next duty_line c.loop-test.true (ap (λ (x : After ℕ). x.lined) same) v.0
+          (then (shown 4 (ap (λ (x : After ℕ). x.gave) same) put) c.end_line-at.ensures.0),
+      omega (arith, v.1, c.put-digits.ensures.1, c.end_line-at.ensures.1),
     )
 
 pub returns : goal.returns
@@ -22,13 +23,10 @@ returns c =
     let l = c.loop in
     let z = c.loop-test.false in
     record {
-      laid = going_end next duty_line z (omega (arith, l.invariant.2, c.ranges.count)) l.invariant.0;
+      laid = going_end next duty_line z (omega (arith, l.invariant.1, c.ranges.count)) l.invariant.0;
       more = refl;
-      sounder = record { same = going-same next duty_line z l.invariant.0; valid = l.invariant.1 };
+      lined = going-same next duty_line z l.invariant.0;
     }
 
 pub loop-init : goal.loop-init
-loop-init c = (going_start next duty_line _ _ _, c.requires, omega arith)
-
-pub ticked-d-requires : goal.ticked-d-requires
-ticked-d-requires c = c.loop.invariant.1
+loop-init c = (going_start next duty_line _ _ _, omega arith)

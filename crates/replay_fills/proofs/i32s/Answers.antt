@@ -1,40 +1,13 @@
--- `replay_fills::i32s` meets its contract: the part that the call left is printed whole.
+-- `replay_fills::i32s` meets its contract: the first n cells are lent blank.
 use native.Mathlib.Omega.{arith}
-use mathlib.Core.Path.{sym}
-use mir.Syntax.{w32}
-use mir.Val.{of_z}
 use Rattle.buffers.specs.Buffers.{to_i32}
-use Rattle.hex_digits.proofs.Texts.{length-hex_of}
 use Rattle.replay_cells.specs.Cells.{i32_text}
 use Rattle.replay_fills.specs.Fills.{blank_i32}
-use Rattle.replay_fills.proofs.Buffers.{Lent, lent_length, Back, back_fits, back-length, shaped-shown}
-use Rattle.replay_fills.proofs.i32s.Goals.{After-blank_i32s-cells, After-fill_i32-f}
-use Rattle.replay_fills.proofs.i32s.Lts as lts
-use Rattle.replay_fills.proofs.i32s.Reads as reads
-use Rattle.replay_fills.proofs.i32s.Tie as tie
+use Rattle.replay_fills.proofs.Buffers.{short-i32, length-blank, blank_cells}
 use Rattle.replay_fills.proofs.i32s.Goals as goal
 
-abbrev At-After-blank_i32s-cells : Type 0
-At-After-blank_i32s-cells = lts.After-blank_i32s tie.the-claims reads.Pre reads.Post tie.handed_clauses
-
-abbrev At-After-fill_i32-f : Type 0
-At-After-fill_i32-f = lts.After-fill_i32 tie.the-claims reads.Pre reads.Post tie.handed_clauses
-
-lent : (b : At-After-blank_i32s-cells) → Lent blank_i32 b.args.n b.blank_i32s-cells.result
-lent b = record { fits = b.requires.n_bound; fresh = b.blank_i32s-cells.ensures }
-
-back : (f : At-After-fill_i32-f) → Back blank_i32 f.args.n f.blank_i32s-cells.result f.fill_i32-f.new.out
-back f = record { lent = lent f.before.before; kept = f.fill_i32-f.auto.out }
+pub shaped-requires : goal.shaped-requires
+shaped-requires c = record { short = short-i32; few = omega (arith, c.requires, length-blank c.args.n blank_i32 c.requires) }
 
 pub returns : goal.returns
-returns c =
-    shaped-shown i32_text 8 (λ x. length-hex_of 8 (of_z w32 x)) (omega arith) to_i32 c.args.shape c.args.bytes.now (back (goal.at.returns c).After-fill_i32-f.before) c.fill_i32-f.ensures c.put_cells-len.ensures
-
-pub slice_bounds-fill_i32-end : goal.slice_bounds-fill_i32-end
-slice_bounds-fill_i32-end c = sym (lent_length (lent (goal.at.slice_bounds-fill_i32-end c).After-blank_i32s-cells.before))
-
-pub slice_bounds-cells-end-2 : goal.slice_bounds-cells-end-2
-slice_bounds-cells-end-2 c = back_fits (back (goal.at.slice_bounds-cells-end-2 c).After-fill_i32-f.before)
-
-pub slice_bounds-put_cells-end : goal.slice_bounds-put_cells-end
-slice_bounds-put_cells-end c = sym (back-length (back (goal.at.slice_bounds-put_cells-end c).After-fill_i32-f.before))
+returns c = blank_cells i32_text blank_i32 to_i32 c.args.shape c.args.n c.args.bytes.now c.args.e.now c.requires c.shaped.ensures

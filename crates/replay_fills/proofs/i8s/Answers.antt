@@ -1,40 +1,13 @@
--- `replay_fills::i8s` meets its contract: the part that the call left is printed whole.
+-- `replay_fills::i8s` meets its contract: the first n cells are lent blank.
 use native.Mathlib.Omega.{arith}
-use mathlib.Core.Path.{sym}
-use mir.Syntax.{w8}
-use mir.Val.{of_z}
 use Rattle.buffers.specs.Buffers.{to_i8}
-use Rattle.hex_digits.proofs.Texts.{length-hex_of}
 use Rattle.replay_cells.specs.Cells.{i8_text}
 use Rattle.replay_fills.specs.Fills.{blank_i8}
-use Rattle.replay_fills.proofs.Buffers.{Lent, lent_length, Back, back_fits, back-length, shaped-shown}
-use Rattle.replay_fills.proofs.i8s.Goals.{After-blank_i8s-cells, After-fill_i8-f}
-use Rattle.replay_fills.proofs.i8s.Lts as lts
-use Rattle.replay_fills.proofs.i8s.Reads as reads
-use Rattle.replay_fills.proofs.i8s.Tie as tie
+use Rattle.replay_fills.proofs.Buffers.{short-i8, length-blank, blank_cells}
 use Rattle.replay_fills.proofs.i8s.Goals as goal
 
-abbrev At-After-blank_i8s-cells : Type 0
-At-After-blank_i8s-cells = lts.After-blank_i8s tie.the-claims reads.Pre reads.Post tie.handed_clauses
-
-abbrev At-After-fill_i8-f : Type 0
-At-After-fill_i8-f = lts.After-fill_i8 tie.the-claims reads.Pre reads.Post tie.handed_clauses
-
-lent : (b : At-After-blank_i8s-cells) → Lent blank_i8 b.args.n b.blank_i8s-cells.result
-lent b = record { fits = b.requires.n_bound; fresh = b.blank_i8s-cells.ensures }
-
-back : (f : At-After-fill_i8-f) → Back blank_i8 f.args.n f.blank_i8s-cells.result f.fill_i8-f.new.out
-back f = record { lent = lent f.before.before; kept = f.fill_i8-f.auto.out }
+pub shaped-requires : goal.shaped-requires
+shaped-requires c = record { short = short-i8; few = omega (arith, c.requires, length-blank c.args.n blank_i8 c.requires) }
 
 pub returns : goal.returns
-returns c =
-    shaped-shown i8_text 2 (λ x. length-hex_of 2 (of_z w8 x)) (omega arith) to_i8 c.args.shape c.args.bytes.now (back (goal.at.returns c).After-fill_i8-f.before) c.fill_i8-f.ensures c.put_cells-len.ensures
-
-pub slice_bounds-fill_i8-end : goal.slice_bounds-fill_i8-end
-slice_bounds-fill_i8-end c = sym (lent_length (lent (goal.at.slice_bounds-fill_i8-end c).After-blank_i8s-cells.before))
-
-pub slice_bounds-cells-end-2 : goal.slice_bounds-cells-end-2
-slice_bounds-cells-end-2 c = back_fits (back (goal.at.slice_bounds-cells-end-2 c).After-fill_i8-f.before)
-
-pub slice_bounds-put_cells-end : goal.slice_bounds-put_cells-end
-slice_bounds-put_cells-end c = sym (back-length (back (goal.at.slice_bounds-put_cells-end c).After-fill_i8-f.before))
+returns c = blank_cells i8_text blank_i8 to_i8 c.args.shape c.args.n c.args.bytes.now c.args.e.now c.requires c.shaped.ensures

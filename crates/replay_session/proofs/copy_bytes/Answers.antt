@@ -1,30 +1,12 @@
--- `replay_session::copy_bytes` meets its contract: what is left to copy is what there was. The measure is the bytes left.
-use mathlib.Core.Path.{◌∙◌}
+-- Each turn copies the next.
+use native.Mathlib.Numerals.{add-one}
 use native.Mathlib.Omega.{arith}
-use Rattle.replay_session.proofs.Lending.{lend-start, lend-turn, lend-end}
+use Rattle.std.proofs.Common.{length-set}
+use Rattle.std.proofs.lemmas.List.{take_more_set}
+use Rattle.replay_session.proofs.Lending.{bytes-last}
 use Rattle.replay_session.proofs.copy_bytes.Goals as goal
-
-pub loop-i-init : goal.loop-i-init
-loop-i-init c = let a = c.args in (omega arith, lend-start a.lent.now a.l.now a.count)
-
-pub overflow_add-i : goal.overflow_add-i
-overflow_add-i c = omega (arith, c.requires)
-
-pub byte_at-requires : goal.byte_at-requires
-byte_at-requires c = omega (arith, c.requires)
-
-pub bounds-lent-i : goal.bounds-lent-i
-bounds-lent-i c = omega (arith, c.requires)
-
-pub overflow_step-i : goal.overflow_step-i
-overflow_step-i c = omega (arith, c.requires)
 
 pub loop-i-preserved : goal.loop-i-preserved
 loop-i-preserved c =
-    let a = c.args in
-    (omega arith, rw c.byte_at.ensures (lend-turn c.loop-i.lent a.l.now c.loop-i.i a.count c.loop-i-test.true ∙ c.loop-i.invariant.1))
-
-pub returns : goal.returns
-returns c =
-    let a = c.args in
-    lend-end c.loop-i.lent a.lent.now a.l.now c.loop-i.i a.count c.loop-i-test.false c.loop-i.invariant.1
+    let l = c.loop-i in
+    (simp length-set l.invariant.0, rw (take_more_set l.lent l.i c.byte_at.result (omega (arith, l.invariant.0, c.loop-i-test.true)), add-one l.i, bytes-last c.args.l.now 1 l.i, c.byte_at.ensures, l.invariant.1))

@@ -1,22 +1,20 @@
--- One rank after another. Assumes nothing.
-use Prim.Native.Nat.{◌<◌}
-use mathlib.Core.Path.{refl}
+-- Each place's rank. Assumes nothing.
+use mathlib.Core.Path.{◌≡◌, ◌∙◌, sym}
 use native.Mathlib.Omega.{arith}
-use lib.ListN.{length, length-set}
-use Rattle.sounder.proofs.Ranks.{ranks-step, ranks-end}
+use mathlib.Core.List.{map}
+use lib.ListN.{length, get_or}
+use Rattle.marks.specs.Marks.{nothing}
+use Rattle.marks.specs.declared.Mark.{Mark}
+use Rattle.std.proofs.Common.{rules}
+use Rattle.std.proofs.lemmas.List.{same_lists, get_or-map, length-map}
 use Rattle.sounder.proofs.ranks_of.Goals as goal
-
-pub loop-i-preserved : goal.loop-i-preserved
-loop-i-preserved c =
-    let h : c.loop-i.i < length c.args.marks = omega (arith, c.well_formed.0.1.0.1) in (
-      omega arith,
-      ranks-step c.args.marks c.loop-i.i c.loop-i.ranks _ h (omega (arith, c.loop-i.invariant.2)) c.loop-i.invariant.1,
-      rw (length-set c.loop-i.ranks) c.loop-i.invariant.2,
-    )
 
 pub returns : goal.returns
 returns c =
-    ranks-end c.args.marks c.loop-i.i c.loop-i.ranks (omega (arith, c.well_formed.0.1.0.1, c.loop-i-test.false)) (omega (arith, c.loop-i.invariant.2, c.loop-i-test.false)) c.loop-i.invariant.1
-
-pub loop-i-init : goal.loop-i-init
-loop-i-init c = (omega arith, refl, refl)
+    let items = c.map.ensures.items in
+    let long : length c.args.marks ≡ 16 = omega (arith, c.well_formed) in
+    same_lists c.map.result (map (λ (k : Mark). k.rank) c.args.marks) (items.long ∙ sym (length-map c.args.marks _ ∙ long))
+    (λ k d h.
+    let y = items.at k nothing d (omega (arith, h, items.long)) in
+    let e : get_or c.map.result k d ≡ (get_or c.args.marks k nothing).rank = search rules in
+    e ∙ sym (get_or-map (λ (k : Mark). k.rank) c.args.marks k nothing d (omega (arith, h, items.long, long))))

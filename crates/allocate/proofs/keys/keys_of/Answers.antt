@@ -1,6 +1,5 @@
 -- `allocate::keys::keys_of` meets its contract: one key after another. Assumes nothing.
 use Prim.Native.Nat.{◌<◌}
-use mathlib.Core.Path.{refl}
 use native.Mathlib.Omega.{arith}
 use lib.ListN.{length, length-set}
 use Rattle.allocate.proofs.Keyed.{keys_step, keys-end}
@@ -21,6 +20,3 @@ pub returns : goal.returns
 returns c =
     let a = c.args in
     keys-end a.present a.voices a.marks c.loop-i.i c.loop-i.keys (omega (arith, c.well_formed.0.1.0.1, c.loop-i-test.false)) (omega (arith, c.loop-i.invariant.2, c.loop-i-test.false)) c.loop-i.invariant.1
-
-pub loop-i-init : goal.loop-i-init
-loop-i-init c = (omega arith, refl, refl)

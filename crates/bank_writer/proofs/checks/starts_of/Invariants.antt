@@ -6,4 +6,4 @@ use Rattle.bank_writer.specs.Refusals.{total_of}
 use Rattle.bank_writer.proofs.checks.starts_of.Given as goal
 
 abbrev pub invariant-loop-i : goal.invariant-loop-i
-invariant-loop-i l = (l.i ≤ 64) × (length l.starts ≡ 65) × (l.next ≡ total_of (take l.i l.entries)) × (l.next ≤ 4294967295 * l.i) × ((k : ℕ) → k ≤ l.i → get_or l.starts k 0 ≡ total_of (take k l.entries))
+invariant-loop-i l = (l.i ≤ 64) × (length l.starts ≡ 65) × (l.next ≡ total_of (take l.i l.fn.entries)) × (l.next ≤ 4294967295 * l.i) × ((k : ℕ) → k ≤ l.i → get_or l.starts k 0 ≡ total_of (take k l.fn.entries))

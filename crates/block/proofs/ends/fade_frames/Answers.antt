@@ -20,18 +20,13 @@ returns-then-t-eq255 c =
     let h = c.requires q in
     record { most = omega arith; goes = λ a z. absurd (omega arith); ends = λ z. (q, omega arith) }
 
-pub returns-then-most-len : goal.returns-then-most-len
-returns-then-most-len c =
+pub returns-then-active : goal.returns-then-active
+returns-then-active c =
     let q = c.if-active.true in
-    fade-frames c.args.t c.args.step c.args.len _ _ q (below (goal.at.returns-then-most-len c).Else-t-eq255) (c.requires q) refl (omega arith)
+    fade-frames c.args.t c.args.step c.args.len _ _ q (below (goal.at.returns-then-active c).Else-t-eq255) (c.requires q) refl c.min.ensures
 
-pub returns-else-most-len : goal.returns-else-most-len
-returns-else-most-len c =
-    let q = c.if-active.true in
-    fade-frames c.args.t c.args.step c.args.len _ _ q (below (goal.at.returns-else-most-len c).Else-t-eq255) (c.requires q) refl (omega arith)
-
-pub returns-else-active : goal.returns-else-active
-returns-else-active c =
+pub returns : goal.returns
+returns c =
     record { most = omega arith; goes = λ a z. never (sym c.if-active.false ∙ a); ends = λ z. absurd (omega arith) }
 
 pub overflow_sub-most : goal.overflow_sub-most

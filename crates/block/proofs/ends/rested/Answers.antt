@@ -53,18 +53,3 @@ returns c =
     let m = c.args.m in
     let e : c.loop-i.i ≡ m.n = omega arith in
     rw e at c.loop-i.invariant.2
-
-pub offset_bounds-out-i : goal.offset_bounds-out-i
-offset_bounds-out-i c = omega (arith, few c)
-
-pub bounds-out-i : goal.bounds-out-i
-bounds-out-i c = few c
-
-pub offset_bounds-out-i-in-loop-i : goal.offset_bounds-out-i-in-loop-i
-offset_bounds-out-i-in-loop-i c = omega (arith, few (goal.at.offset_bounds-out-i-in-loop-i c).In-loop-i)
-
-pub bounds-out-i-in-loop-i : goal.bounds-out-i-in-loop-i
-bounds-out-i-in-loop-i c = few (goal.at.bounds-out-i-in-loop-i c).In-loop-i
-
-pub overflow_step-i : goal.overflow_step-i
-overflow_step-i c = omega (arith, few (goal.at.overflow_step-i c).In-loop-i)

@@ -1,11 +1,6 @@
--- `AudioEngine::fill_u16` meets its contract, by that of the lifted state.
+-- The lifted state fills as the engine's own does. Assumes nothing.
 use Rattle.buffers.proofs.Lifted.{level-lifted}
 use Rattle.engine.proofs.AudioEngine.fill_u16.Goals as goal
 
 pub returns : goal.returns
-returns c =
-    let a = c.args in
-    level-lifted a.level a.self.state (rw c.lifted.ensures at c.fill_u16-f.ensures)
-
-pub fill_u16-f-requires : goal.fill_u16-f-requires
-fill_u16-f-requires c = rw c.lifted.ensures c.requires.inside
+returns c = rw c.self.view_is at (level-lifted c.args.level c.self.inside.state (rw c.lifted.ensures at c.fill_u16-f.ensures))

@@ -3,5 +3,5 @@ use Rattle.std.proofs.Common.{◌≡◌, ◌*◌, ◌≤◌, take}
 use Rattle.evacuation.specs.Pattern.{lengths, total}
 use Rattle.evacuation.proofs.Pattern.cycle_samples.Given as goal
 
-abbrev pub invariant-loop-k : goal.invariant-loop-k
-invariant-loop-k l = (l.samples ≡ total (take l.k (lengths l.self))) × (l.samples ≤ 98305 * l.k) × (l.k ≤ l.samples)
+abbrev pub invariant-loop-n : goal.invariant-loop-n
+invariant-loop-n l = (l.samples ≡ total (take l.n-index (lengths l.fn.self))) × (l.samples ≤ 98305 * l.n-index) × (l.n-index ≤ l.samples)

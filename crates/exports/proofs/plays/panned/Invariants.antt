@@ -1,8 +1,7 @@
--- `exports::plays::panned` meets its contract: the pans that are left, from each turn on, give what all give.
-use Rattle.sounder.specs.Sounders.{ValidSounder}
+-- The pans that are left, from each turn on, give what all give. Assumes nothing.
 use Rattle.exports_parts.proofs.Panning.{Panning}
 use Rattle.exports_play.specs.Plays.{calls}
 use Rattle.exports.proofs.plays.panned.Given as goal
 
 abbrev pub invariant-loop-i : goal.invariant-loop-i
-invariant-loop-i l = Panning calls ValidSounder l.pans l.initial.s l.i l.s
+invariant-loop-i l = Panning calls l.pans l.initial.s l.i l.s

@@ -1,4 +1,4 @@
--- `exports::waits::leave_each` meets its contract: those that are still to be left, from each turn on, give what all give.
+-- Those that are still to be left, from each turn on, give what all give.
 use Prim.Native.Nat.{◌-◌}
 use Rattle.exports.proofs.Leaving.{Leaving}
 use Rattle.exports.proofs.waits.leave_each.Given as goal

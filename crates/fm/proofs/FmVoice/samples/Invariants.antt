@@ -1,5 +1,6 @@
 -- `fm::FmVoice::samples` meets its contract: the two phases are the oscillator's after k samples, which are stored.
 use Rattle.std.proofs.Common.{ℕ, ◌≤◌}
+use lib.ListN.{length}
 use Rattle.laws.proofs.Stores.{Wrote}
 use Rattle.fm.specs.declared.FmVoice.{FmVoice}
 use Rattle.fm.specs.Fm.{fm_sample, advanced_fm}
@@ -16,5 +17,5 @@ at_phases v carrier modulator =
       active = v.active;
     }
 
-abbrev pub invariant-loop-k : goal.invariant-loop-k
-invariant-loop-k l = (l.k ≤ l.n) × Wrote advanced_fm fm_sample l.self l.initial.out 0 l.k (at_phases l.self l.carrier l.modulator) l.out
+abbrev pub invariant-loop-cell : goal.invariant-loop-cell
+invariant-loop-cell l = (l.cell-index ≤ length l.initial.cell-items) × Wrote advanced_fm fm_sample l.self l.initial.cell-items 0 l.cell-index (at_phases l.self l.carrier l.modulator) l.cell-items

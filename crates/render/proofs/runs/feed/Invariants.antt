@@ -1,10 +1,10 @@
--- The place is in the chunk and the run valid. The measure is what is left of the chunk.
-use Rattle.std.proofs.Common.{length, ◌-◌, ◌≤◌}
-use Rattle.render.specs.Runs.{ValidRun}
+-- The place is in the chunk. The measure is what is left of the chunk.
+use Prim.Native.Nat.{◌-◌, ◌≤◌}
+use lib.ListN.{length}
 use Rattle.render.proofs.runs.feed.Given as goal
 
 abbrev pub invariant-loop-i : goal.invariant-loop-i
-invariant-loop-i g l = record { within : l.i ≤ length l.chunk; run : ValidRun l.t }
+invariant-loop-i g l = l.i ≤ length l.chunk
 
 abbrev pub decreases-loop-i : goal.decreases-loop-i
 decreases-loop-i g l = length l.chunk - l.i

@@ -6,7 +6,7 @@ use Rattle.render_account.proofs.words.voiced.Goals as goal
 
 pub returns-then-is_audible : goal.returns-then-is_audible
 unfolding voice_text
-returns-then-is_audible c = rw (sym c.voice.ensures, c.in-Some.is, sym c.is_audible.ensures, c.if-is_audible.true, sym c.is_present.ensures) (joined (joined c.say.ensures c.count-got.ensures) c.taken.ensures)
+returns-then-is_audible c = rw (sym c.voice.ensures, c.in-Some.is, sym c.is_audible.ensures, c.if-is_audible.true) (joined (joined c.say.ensures c.count-got.ensures) c.taken.ensures)
 
 pub returns-in-None : goal.returns-in-None
 unfolding voice_text

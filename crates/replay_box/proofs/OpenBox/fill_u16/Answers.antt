@@ -2,8 +2,8 @@
 use Rattle.replay_box.proofs.Along.{level-sounder, level-engine}
 use Rattle.replay_box.proofs.OpenBox.fill_u16.Goals as goal
 
-pub returns-then-self : goal.returns-then-self
-returns-then-self c = level-sounder c.args.bytes.now c.args.self c.requires c.args.level c.if-self.true c.fill_u16-f.ensures
+pub returns-in-Engine : goal.returns-in-Engine
+returns-in-Engine c = rw c.in-Engine.is (level-engine c.args.level c.args.bytes.now _ c.fill_u16.ensures)
 
-pub returns : goal.returns
-returns c = level-engine c.args.bytes.now c.args.self c.requires c.args.level c.if-self.false c.fill_u16-f-2.ensures
+pub returns-in-Sounder : goal.returns-in-Sounder
+returns-in-Sounder c = rw c.in-Sounder.is (level-sounder c.args.level c.args.bytes.now _ c.fill_u16-in-Sounder.ensures)

@@ -2,9 +2,12 @@
 use Rattle.sounder.proofs.Valid.{made-settled}
 use Rattle.sounder.proofs.Sounder.faded.Goals as goal
 
-pub settled-present-requires : goal.settled-present-requires
-settled-present-requires c = rw c.fade_marks-marks.ensures c.requires.valid_changed.1
+pub invariant_of-self : goal.invariant_of-self
+invariant_of-self c =
+    let h = rw (← c.self.view_is) at c.requires in
+    (made-settled _ c.self.invariant h.0 h.1 c.fade_marks-marks.ensures c.settled-self-inside.ensures).valid
 
 pub returns : goal.returns
 returns c =
-    made-settled _ c.requires.valid_sounder.inside c.requires.valid_changed.0 c.requires.valid_changed.1 c.fade_marks-marks.ensures c.settled-present.ensures
+    let h = rw (← c.self.view_is) at c.requires in
+    rw (← c.self.view_is) (made-settled _ c.self.invariant h.0 h.1 c.fade_marks-marks.ensures c.settled-self-inside.ensures)

@@ -2,5 +2,8 @@
 use Rattle.sounder.proofs.Valid.{made-panned}
 use Rattle.sounder.proofs.Sounder.set_voice_pan.Goals as goal
 
+pub invariant_of-self : goal.invariant_of-self
+invariant_of-self c = (made-panned _ _ c.self.invariant c.set_voice_pan-self-inside.ensures).valid
+
 pub returns : goal.returns
-returns c = rw c.with.ensures (made-panned _ _ c.requires.inside c.set_voice_pan-mixer.ensures)
+returns c = rw (← c.self.view_is) (made-panned _ _ c.self.invariant c.set_voice_pan-self-inside.ensures)

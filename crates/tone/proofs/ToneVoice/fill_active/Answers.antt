@@ -2,6 +2,7 @@
 use Rattle.std.proofs.Common.{◌≡◌, ◌≤◌, length, ap, arith, rules}
 use Rattle.tone.specs.Duration.{forever}
 use Rattle.tone.proofs.Laws.{tone_at, tone-counted}
+use Rattle.tone.proofs.Loops.{waved_front}
 use Rattle.tone.proofs.Sounding.{block, given-most}
 use Rattle.tone.proofs.ToneVoice.fill_active.Goals.{Start}
 use Rattle.tone.proofs.ToneVoice.fill_active.Goals as goal
@@ -9,14 +10,17 @@ use Rattle.tone.proofs.ToneVoice.fill_active.Goals as goal
 left : (s : Start) → s.args.self.samples_left ≤ forever
 left s = omega arith
 
-pub fill_wave-phase-requires : goal.fill_wave-phase-requires
-fill_wave-phase-requires c = omega (arith, c.given_of-given.ensures, given-most c.args.self.samples_left c.args.len, c.requires.few)
+pub slice_bounds-fill_wave-end : goal.slice_bounds-fill_wave-end
+slice_bounds-fill_wave-end c =
+    let few : c.given_of-given.result ≤ 256 = omega (arith, c.given_of-given.ensures, given-most c.args.self.samples_left c.args.len, c.requires.few) in
+    search rules
 
 pub returns : goal.returns
 returns c =
     let v = c.args.self in
     let full : length c.args.out.now ≡ 256 = search rules in
+    let few : c.given_of-given.result ≤ length c.args.out.now = omega (arith, full, c.given_of-given.ensures, given-most v.samples_left c.args.len, c.requires.few) in
     let b = block (tone-counted v) c.args.len v.phase v.samples_left (omega (arith, c.requires.few))
     (ap (tone_at v v.phase v.samples_left) c.requires.sounds) (left (goal.at.returns c).Start) (omega (arith, c.requires.few))
-    c.given_of-given.ensures c.less.ensures c.fill_wave-phase.ensures in
+    c.given_of-given.ensures c.less.ensures (waved_front c.given_of-given.result c.args.out.now few c.fill_wave-phase.ensures) in
     record { voice = b.same; given = b.given }

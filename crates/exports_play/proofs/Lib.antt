@@ -1,1 +1,0 @@
--- How requests played in one call are proved: each function's proof stands in its folder, over `exports_parts`.

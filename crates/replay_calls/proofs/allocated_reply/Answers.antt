@@ -1,8 +1,0 @@
--- `replay_calls::allocated_reply` meets its contract: each variant is the definition's.
-use Rattle.replay_calls.proofs.allocated_reply.Goals as goal
-
-pub returns-in-Some : goal.returns-in-Some
-returns-in-Some c = rw c.in-Some.is
-
-pub returns-in-None : goal.returns-in-None
-returns-in-None c = rw c.in-None.is

@@ -1,7 +1,0 @@
--- `replay_calls::pan_call` meets its contract: what the box promises, with the fields of the line.
-use Rattle.replay_calls.specs.Calls.{pan_call}
-use Rattle.replay_calls.proofs.pan_call.Goals as goal
-
-pub returns : goal.returns
-unfolding pan_call
-returns c = record { same = cc; valid = c.set_voice_pan-held.ensures.valid }

@@ -1,8 +1,0 @@
--- `replay_waits::next_reply` meets its contract: each variant is the definition's.
-use Rattle.replay_waits.proofs.next_reply.Goals as goal
-
-pub returns-in-None : goal.returns-in-None
-returns-in-None c = rw c.in-None.is
-
-pub returns-in-Some : goal.returns-in-Some
-returns-in-Some c = rw c.in-Some.is

@@ -1,5 +1,0 @@
--- What opening promises of the configuration that is made. Assumes nothing.
-use Rattle.sounder.proofs.Sounder.from_sample_rate.Goals as goal
-
-pub returns : goal.returns
-returns c = rw c.new-config.ensures at c.new.ensures

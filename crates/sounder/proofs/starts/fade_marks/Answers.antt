@@ -1,5 +1,0 @@
--- Case by case. Assumes nothing.
-use Rattle.sounder.proofs.starts.fade_marks.Goals as goal
-
-pub returns-in-Ok : goal.returns-in-Ok
-returns-in-Ok c = rw (c.in-Ok.is, c.started-started.ensures)

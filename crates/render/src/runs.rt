@@ -11,7 +11,7 @@ use replay_session::Session;
 use std::io::Read;
 
 // How much of a line is kept (in a fixed buffer: there is no heap), how many lines there were, the sound, and the session.
-#[derive(Drop)]
+#[derive(Clone, Copy)]
 pub struct Run<'a> {
     pub line: usize,
     pub number: u64,
@@ -99,7 +99,7 @@ fn line_done(rt: &(impl Print + Eprint), r: &mut Run<'_>, l: &[u8], b: &mut Buff
     let before = r.session.copied();
     let n = render_sounds::sound(l, &before, &mut b.cells);
     if n > 0 {
-        heard(rt, r, rate_of(&before), b.cells.get(..n)?, &mut b.kept)?;
+        heard(rt, r, rate_of(&before), &b.cells[..n], &mut b.kept)?;
     }
     let c = r.file.clock;
     answered(rt, r, l, &before, c, b)?;

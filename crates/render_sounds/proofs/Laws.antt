@@ -7,7 +7,7 @@ use native.Mathlib.Omega.{arith}
 use borrow.Author.Tests.{leb-true}
 use lib.Dec.{leb, eqb}
 use lib.ListN.{length}
-use Rattle.std.specs.Prelude.{Some, is_some}
+use Rattle.std.specs.Prelude.{None, Option, Some, is_some}
 use Rattle.laws.proofs.Bools.{never}
 use Rattle.buffers.specs.Buffers.{to_i16}
 use Rattle.buffers.specs.declared.Shape.TheVariants.{Doubled, Sides}
@@ -15,8 +15,9 @@ use Rattle.hex_digits.specs.Hex.{byte_at, wide_at}
 use Rattle.replay_box.specs.Frames.{frames}
 use Rattle.replay_box.specs.declared.OpenBox.{OpenBox}
 use Rattle.replay_fills.specs.Fills.{buffer_of}
+use Rattle.replay_session.specs.Runs.{Run, lent_in}
 use Rattle.replay_session.specs.Sessions.{fill_allowed, is_line}
-use Rattle.render_sounds.specs.Sounds.{is_stereo, filled_frames, is_one_frame, frames_for, frames_of, cells_of, sound_by}
+use Rattle.render_sounds.specs.Sounds.{is_stereo, filled_frames, is_one_frame, frames_for, frames_of, cells_of, sound_by, sound_of}
 use Rattle.render_sounds.proofs.Pairs.{pairs-length}
 
 cells-length : (stereo : Bool) (n : ℕ) (bytes : List ℕ) (b : OpenBox) → length (cells_of (cond stereo Sides Doubled) n bytes b) ≡ 2 * n
@@ -26,6 +27,19 @@ cells-length false n bytes b = let f = frames bytes in pairs-length f.mono (λ b
 -- two cells a frame
 pub sound-length : (bytes l : List ℕ) (b : OpenBox) → length (sound_by bytes l (Some b)) ≡ 2 * frames_of l
 sound-length bytes l b = cells-length (is_stereo (byte_at l 0)) (frames_of l) bytes b
+
+-- the frames that a line makes of a run: none before a box is open
+abbrev pub run_frames : Option OpenBox → List ℕ → ℕ
+run_frames None l = 0
+run_frames (Some b) l = frames_of l
+
+by-box : (bytes l : List ℕ) (held : Option OpenBox) → length (sound_by bytes l held) ≡ 2 * run_frames held l
+by-box bytes l None = refl
+by-box bytes l (Some b) = sound-length bytes l b
+
+pub sound_whole : (s : Run) (l : List ℕ) → length (sound_of s l) ≡ 2 * run_frames s.held l
+unfolding sound_of
+sound_whole s l = by-box (lent_in s) l s.held
 
 both_right : (a b : Bool) → (a && b) ≡ true → b ≡ true
 both_right true b e = e
@@ -55,3 +69,13 @@ few-for code l =
 pub few-frames : (l : List ℕ) → frames_of l ≤ 2048
 unfolding frames_of
 few-frames l = either (is_line l) (frames_for (byte_at l 0) l) 0 (λ _. few-for (byte_at l 0) l) (omega arith)
+
+few-run : (held : Option OpenBox) (l : List ℕ) → run_frames held l ≤ 2048
+few-run None l = omega arith
+few-run (Some b) l = few-frames l
+
+pub few_cells : (s : Run) (l : List ℕ) → length (sound_of s l) ≤ 4096
+few_cells s l =
+    let n = sound_whole s l in
+    let few = few-run s.held l in
+    omega (arith, n, few)

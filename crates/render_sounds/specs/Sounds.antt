@@ -10,7 +10,7 @@ use Rattle.replay_box.specs.Frames.{frames}
 use Rattle.replay_box.specs.declared.OpenBox.{OpenBox}
 use Rattle.replay_calls.specs.Calls.{sized_as}
 use Rattle.replay_fills.specs.Fills.{buffer_of}
-use Rattle.replay_session.specs.Runs.{Run}
+use Rattle.replay_session.specs.Runs.{Run, lent_in}
 use Rattle.replay_session.specs.Sessions.{fill_allowed, is_line}
 
 -- 29, 2A, 2B and 68 make stereo frames, every other record mono ones
@@ -47,7 +47,7 @@ sound_by bytes l None = []
 sound_by bytes l (Some b) = cells_of (shape_of (byte_at l 0)) (frames_of l) bytes b
 
 unfoldable pub sound_of : Run → List ℕ → List ℤ
-sound_of s l = sound_by s.lent l s.held
+sound_of s l = sound_by (lent_in s) l s.held
 
 -- so many cells at the front of a buffer, and the rest as before
 pub record Sounds (cells before after : List ℤ) (r : ℕ) : Type 0 where

@@ -22,7 +22,7 @@ pub enum Rules {
     Present,
 }
 
-#[derive(Drop)]
+#[derive(Clone, Copy)]
 pub enum OpenBox {
     Engine(AudioEngine),
     Sounder(Sounder),
@@ -52,7 +52,7 @@ impl OpenBox {
         }
     }
 
-    // A box of its own that is the same: no `Copy`, since what holds a model is not copied in a proof.
+    // A box of its own that is the same: what holds a model is `Copy`, but a proof does not follow it where it is handed over by value and used again.
     pub fn copied(&self) -> OpenBox
         ensures { result ≡ self.now }
     {

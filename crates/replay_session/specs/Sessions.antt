@@ -1,5 +1,5 @@
 -- A run over lines, "drives one engine through its public calls": document 01's box or one of the present rules. Assumes nothing.
-use Rattle.std.specs.Prelude.{ℕ, zero, suc, ◌+◌, ◌-◌, ◌/◌, ◌%◌, ◌≡◌, Bool, true, false, cond, ◌&&◌, List, [], ◌∷◌, ◌++◌, leb, eqb, length, drop, Option, Some, None, Result, Ok, Err}
+use Rattle.std.specs.Prelude.{ℕ, zero, suc, ◌+◌, ◌-◌, ◌/◌, ◌%◌, ◌≡◌, Bool, true, false, cond, ◌&&◌, List, [], ◌∷◌, ◌++◌, leb, eqb, length, drop, replicate, Option, Some, None, Result, Ok, Err}
 use Rattle.config.specs.declared.AudioConfig.{AudioConfig}
 use Rattle.error.specs.Numbers.{number_of}
 use Rattle.error.specs.declared.AudioError.{AudioError}
@@ -22,7 +22,7 @@ use Rattle.replay_leaves.specs.declared.Answered.{Answered}
 use Rattle.replay_replies.specs.Texts.{bad_text, reply_text}
 use Rattle.replay_waits.specs.Waits.{asked_of, called_any}
 use Rattle.replay_waits.specs.declared.Asked.{Asked}
-use Rattle.replay_session.specs.Runs.{Run}
+use Rattle.replay_session.specs.Runs.{Run, lent_in, with_box}
 use Rattle.replay_session.specs.declared.Asks.{Asks}
 use Rattle.replay_session.specs.declared.Asks.TheVariants as K
 
@@ -34,7 +34,7 @@ pub record Answer : Type 0 where
 
 -- "at first nothing is lent"
 abbrev pub started : Run
-started = record { lent = []; held = None }
+started = record { cells = replicate 4096 0; count = 0; held = None }
 
 -- "prints FFFF and ends the run"
 abbrev pub bad_line : Run → Answer
@@ -60,7 +60,7 @@ opens l = sized_as 10 l && (leb (byte_at l 8) 2 && leb (byte_at l 10) 1)
 -- "A second 10 that is accepted replaces the engine; one that is refused leaves the old one. The lent bytes stay over both". So with either
 -- kind of box.
 abbrev pub opened_as : Run → Result OpenBox AudioError → Answer
-opened_as s (Ok b) = record { text = hex_of 2 0 ++ newline; more = true; run = record { lent = s.lent; held = Some b } }
+opened_as s (Ok b) = record { text = hex_of 2 0 ++ newline; more = true; run = with_box s b }
 opened_as s (Err e) = record { text = hex_of 2 (number_of e) ++ newline; more = true; run = s }
 
 -- "10 opens document 01's box, 70 .. one of the present rules, at any time"
@@ -76,11 +76,12 @@ bytes_at l k (suc n) = byte_at l k ∷ bytes_at l (k + 1) n
 abbrev pub lent_bytes : List ℕ → ℕ
 lent_bytes l = length l / 2 - 1
 
+-- the bytes go over the first cells; nothing else touches the cells
+abbrev pub lent_over : Run → List ℕ → Run
+lent_over s l = record { cells = bytes_at l 1 (lent_bytes l) ++ drop (lent_bytes l) s.cells; count = lent_bytes l; held = s.held }
+
 unfoldable pub lend_answer : Run → List ℕ → Answer
-lend_answer s l =
-    cond (eqb (length l % 2) 0)
-    (record { text = []; more = true; run = record { lent = bytes_at l 1 (lent_bytes l); held = s.held } })
-    (bad_line s)
+lend_answer s l = cond (eqb (length l % 2) 0) (record { text = []; more = true; run = lent_over s l }) (bad_line s)
 
 -- a bad line "ends the run"
 abbrev pub goes_on : Reply → Bool
@@ -101,12 +102,12 @@ goes_on R.Ranks = true
 goes_on R.Waiting = true
 
 abbrev pub called_answer : Run → List ℕ → Gave Reply → Answer
-called_answer s l c = record { text = reply_text c.gave l s.lent c.held; more = goes_on c.gave; run = record { lent = s.lent; held = Some c.held } }
+called_answer s l c = record { text = reply_text c.gave l (lent_in s) c.held; more = goes_on c.gave; run = with_box s c.held }
 
 -- 11, 13 to 1D, 2B, 2C, 30, 62 to 69, 73 to 7A: "any record but 10 and the 4x ones before an engine is open" is bad
 abbrev pub called_by : Asked → Run → List ℕ → Option OpenBox → Answer
 called_by asked s l None = bad_line s
-called_by asked s l (Some b) = called_answer s l (called_any asked l s.lent b)
+called_by asked s l (Some b) = called_answer s l (called_any asked l (lent_in s) b)
 
 unfoldable pub call_answer : Asked → Run → List ℕ → Answer
 call_answer asked s l = called_by asked s l s.held
@@ -116,11 +117,11 @@ abbrev pub fill_allowed : List ℕ → Bool
 fill_allowed l = sized_as 2 l && leb (wide_at l 1) 2048
 
 abbrev pub filled_answer : Run → Fill → Answer
-filled_answer s f = record { text = f.text; more = true; run = record { lent = s.lent; held = Some f.held } }
+filled_answer s f = record { text = f.text; more = true; run = with_box s f.held }
 
 abbrev pub filled_by : Buffer → Run → List ℕ → Option OpenBox → Answer
 filled_by buffer s l None = bad_line s
-filled_by buffer s l (Some b) = filled_answer s (fill_for buffer (wide_at l 1) s.lent b)
+filled_by buffer s l (Some b) = filled_answer s (fill_for buffer (wide_at l 1) (lent_in s) b)
 
 unfoldable pub fill_answer : Buffer → Run → List ℕ → Answer
 fill_answer buffer s l = cond (fill_allowed l) (filled_by buffer s l s.held) (bad_line s)

@@ -5,6 +5,7 @@ ghost use Rattle.std.specs.Prelude.{◌≡◌, ◌-◌, ◌/◌, ◌≤◌, fals
 ghost use Rattle.hex_digits.specs.Hex.{byte_at, Wrote};
 ghost use Rattle.replay_fills.specs.Fills.{buffer_of};
 ghost use Rattle.replay_replies.specs.Texts.{bad_text};
+ghost use Rattle.replay_session.specs.Runs.{lent_in};
 ghost use Rattle.replay_session.specs.Sessions.{bytes_at, Laid, Does, Answers, started, policy_of, config_at, opens, open_answer, lend_answer, goes_on, call_answer, fill_answer, fill_allowed, asks_box, asks_of, answer_for, session_answer};
 ghost use Rattle.replay_waits.specs.Waits.{asked_of};
 
@@ -31,7 +32,7 @@ enum Asks {
 }
 
 // The first cells are the bytes lent.
-#[derive(Drop)]
+#[derive(Clone, Copy)]
 pub struct Session {
     cells: [u8; 4096],
     count: usize,
@@ -40,13 +41,15 @@ pub struct Session {
 
 impl Model for Session {
     ghost use Rattle.std.specs.Prelude.{◌≤◌};
-    ghost use Rattle.replay_session.specs.Runs.{Run, run_in};
+    ghost use Rattle.replay_session.specs.Runs.{Run};
 
     ghost Value = { Run };
 
-    ghost view = { λ s. run_in s.cells s.count s.held };
+    ghost view = { λ s. record { cells = s.cells; count = s.count; held = s.held } };
 
     ghost invariant = { λ s. s.count ≤ 4096 };
+
+    ghost inverse = { λ r. record { cells = r.cells; count = r.count; held = r.held } };
 }
 
 fn bad(out: &mut [u8; 262144]) -> Answered
@@ -172,7 +175,7 @@ impl Session {
 
     // The bytes lent.
     pub fn lent(&self) -> &[u8]
-        ensures { result.now ≡ self.now.lent }
+        ensures { result.now ≡ lent_in self.now }
     {
         &self.cells[..self.count]
     }

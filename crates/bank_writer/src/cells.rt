@@ -11,7 +11,7 @@ pub fn put(out: &mut [u8], at: usize, bytes: &[u8])
     requires { at + length bytes.now ≤ length out.old }
     ensures { out.new ≡ sets out.old at bytes.now }
 {
-    // Without bytes there is no call of the C library's copy: sixty-four entries without payloads take a quarter more time with it.
+    // Without bytes there is no call of the C library's copy: sixty-four of them made a bank without payloads some 1,400 instructions longer.
     if bytes.is_empty() {
         return;
     }

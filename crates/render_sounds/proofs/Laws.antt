@@ -70,6 +70,7 @@ pub few-frames : (l : List ℕ) → frames_of l ≤ 2048
 unfolding frames_of
 few-frames l = either (is_line l) (frames_for (byte_at l 0) l) 0 (λ _. few-for (byte_at l 0) l) (omega arith)
 
+-- so a line sounds at most 4,096 cells, whatever the run
 few-run : (held : Option OpenBox) (l : List ℕ) → run_frames held l ≤ 2048
 few-run None l = omega arith
 few-run (Some b) l = few-frames l
